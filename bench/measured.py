@@ -1,0 +1,53 @@
+"""What the benchmarks share: the built program, and one run of it with its time and its peak memory."""
+
+import os
+import sys
+import tempfile
+import time
+
+TOP = os.path.dirname(os.path.dirname(os.path.realpath(__file__)))
+PROGRAM = os.path.join(TOP, "crates", "albert", "out", "albert")
+
+
+def program():
+    """Returns the path of the built program: the first word of the command line, or what rt ci left."""
+    path = os.path.abspath(sys.argv[1]) if len(sys.argv) > 1 else PROGRAM
+    if not os.access(path, os.X_OK):
+        sys.exit("no built program in crates/albert/out: run rt ci, or ./albert check < examples/associator_expands.txt")
+    return path
+
+
+def run(path, script):
+    """Runs the check on the file SCRIPT. Returns the seconds, the peak memory in MB, the status and the output.
+
+    The peak is that of the process itself (the highest resident size that the system counted). It is never below what
+    this small script itself takes, some 10 to 20 MB.
+    """
+    with open(script, "rb") as given, tempfile.TemporaryFile() as written:
+        began = time.perf_counter()
+        child = os.fork()
+        if child == 0:
+            try:
+                os.dup2(given.fileno(), 0)
+                os.dup2(written.fileno(), 1)
+                os.execv(path, [path, "check"])
+            finally:
+                os._exit(127)
+        _, ended, used = os.wait4(child, 0)
+        seconds = time.perf_counter() - began
+        written.seek(0)
+        text = written.read().decode()
+    status = os.WEXITSTATUS(ended) if os.WIFEXITED(ended) else -os.WTERMSIG(ended)
+    return seconds, used.ru_maxrss / 1024, status, text
+
+
+def best(path, script, times):
+    """Runs SCRIPT several times. Returns the least seconds, the greatest peak, and the status and output of the last run."""
+    runs = [run(path, script) for _ in range(times)]
+    return min(it[0] for it in runs), max(it[1] for it in runs), runs[-1][2], runs[-1][3]
+
+
+def demand(name, status, text, wanted_status, wanted_text):
+    """Stops where a run did not write and end as it is to: its time would say nothing."""
+    if (status, text) != (wanted_status, wanted_text):
+        sys.exit(f"{name}: status {status} and output {text[:200]!r}, wanted {wanted_status} and {wanted_text!r}")

@@ -1,0 +1,19 @@
+-- The laws of derivations.
+use Rattle.std.specs.Prelude.{◌≡◌, ◌<◌, ◌↔◌, ℕ, List, [], None}
+use Rattle.alb_mono.specs.Listing.{Each}
+use Rattle.alb_poly.specs.Poly.{Poly}
+use Rattle.alb_poly.specs.Instance.{Form}
+use Rattle.alb_poly.specs.Consequence.{IsConsequence}
+use Rattle.alb_deriv.specs.Derivation.{Line, line_values, AreSound, IsDerivation, claim_fault}
+
+-- the polynomial of each line is a consequence, where no line has a fault
+abbrev pub LinesAreConsequences : Type 0
+LinesAreConsequences = (p : ℕ) (target : List ℕ) (fs : List Form) (ls : List Line) → AreSound p target fs [] ls → Each (IsConsequence p fs) (line_values fs [] ls)
+
+-- what has a derivation is a consequence
+abbrev pub DerivedIsConsequence : Type 0
+DerivedIsConsequence = (p : ℕ) (target : List ℕ) (fs : List Form) (g : Poly) (ls : List Line) → IsDerivation p target fs g ls → IsConsequence p fs g
+
+-- the lines are a derivation exactly where they have no fault and end with the claim
+abbrev pub NoFaultIsDerivation : Type 0
+NoFaultIsDerivation = (p : ℕ) (target : List ℕ) (fs : List Form) (g : Poly) (ls : List Line) → 0 < p → (claim_fault p target fs g ls ≡ None) ↔ IsDerivation p target fs g ls

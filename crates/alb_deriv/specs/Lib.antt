@@ -1,0 +1,4 @@
+pub mod Derivation
+pub mod Views
+pub mod Answers
+pub mod Laws

@@ -1,0 +1,5 @@
+pub mod Fronts
+pub mod LineLemmas
+pub mod Pieces
+pub mod Readings
+pub mod Shelves

@@ -1,0 +1,12 @@
+//! The tokens of a line.
+#![tactic(auto)]
+
+mod error;
+mod lexing;
+#[cfg(test)]
+mod tests;
+mod token;
+
+pub use error::LexError;
+pub use lexing::tokens;
+pub use token::{Token, TokenKind};

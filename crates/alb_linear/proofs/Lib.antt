@@ -1,0 +1,4 @@
+pub mod OrderLemmas
+pub mod IdentityLemmas
+pub mod LinearLemmas
+pub mod LawLemmas

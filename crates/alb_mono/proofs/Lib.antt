@@ -1,0 +1,6 @@
+pub mod Leaves
+pub mod Order
+pub mod TypeLemmas
+pub mod ListingLemmas
+pub mod TypesListing
+pub mod LetterLemmas

@@ -1,0 +1,14 @@
+pub mod Consequence
+pub mod Orders
+pub mod Multilinear
+pub mod Parts
+pub mod Extra
+pub mod NormalLemmas
+pub mod Products
+pub mod AtMost
+pub mod Terms
+pub mod Collecting
+pub mod Items
+pub mod Falling
+pub mod Images
+pub mod PartLemmas

@@ -1,0 +1,6 @@
+use Rattle.std.proofs.Common.{◌≡◌, ◌++◌, take}
+use Rattle.alb_poly.specs.Terms.{terms}
+use Rattle.alb_poly.proofs.lists.push_copies.Given as goal
+
+abbrev pub invariant-loop-t : goal.invariant-loop-t
+invariant-loop-t l = terms l.out.items ≡ terms l.initial.out.items ++ terms (take l.t-index l.list)

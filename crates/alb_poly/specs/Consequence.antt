@@ -1,0 +1,43 @@
+-- Consequences: combinations of instances in contexts.
+use Rattle.std.specs.Prelude.{◌≡◌, ℕ, ◌<◌, List, [], ◌∷◌, length, slice_index_or}
+use Rattle.std.specs.List.{flat_map}
+use Rattle.gf_sums.specs.Sums.{scale, reindex}
+use Rattle.alb_mono.specs.Listing.{Each}
+use Rattle.alb_mono.specs.Tree.{Tree}
+use Rattle.alb_mono.specs.declared.side.Side.{Side}
+use Rattle.alb_poly.specs.Poly.{Poly, IsSamePoly}
+use Rattle.alb_poly.specs.Context.{within}
+use Rattle.alb_poly.specs.Instance.{Form, instance, IsMultilinearForm}
+
+-- a multiple of an instance in a context
+pub record Item : Type 0 where
+  pub coef : ℕ
+  pub form : ℕ
+  pub args : List Tree
+  pub context : List (Side × Tree)
+
+-- the form of a number, from 0
+abbrev pub form_at : List Form → ℕ → Form
+form_at fs k = slice_index_or fs k (record { degree = 0; terms = [] })
+
+-- the item names a form, and has a monomial for each of its positions
+pub record IsItem (fs : List Form) (it : Item) : Type 0 where
+  pub named : it.form < length fs
+  pub full : length it.args ≡ (form_at fs it.form).degree
+
+abbrev pub item_value : List Form → Item → Poly
+item_value fs it = scale it.coef (reindex (within it.context) (instance (form_at fs it.form) it.args))
+
+abbrev pub AreItems : List Form → List Item → Type 0
+AreItems fs [] = Unit {0}
+AreItems fs (it ∷ its) = IsItem fs it × AreItems fs its
+
+-- `g` equals the sum of items
+pub record IsConsequence (p : ℕ) (fs : List Form) (g : Poly) : Type 0 where
+  pub items : List Item
+  pub are : AreItems fs items
+  pub same : IsSamePoly p g (flat_map (item_value fs) items)
+
+-- every form is multilinear
+abbrev pub AreMultilinear : List Form → Type 0
+AreMultilinear fs = Each IsMultilinearForm fs

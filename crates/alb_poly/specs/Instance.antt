@@ -1,0 +1,77 @@
+-- The full linearization of a homogeneous identity, and its instances.
+use Rattle.std.specs.Prelude.{◌≡◌, ℕ, zero, suc, ◌+◌, take, drop, sum, List, [], ◌∷◌, ◌++◌, map, slice_index_or}
+use Rattle.std.specs.List.{flat_map}
+use Rattle.gf_sums.specs.Sums.{reindex}
+use Rattle.alb_mono.specs.Listing.{Each}
+use Rattle.alb_mono.specs.Tree.{Tree, leaf, node, count}
+use Rattle.alb_poly.specs.Poly.{Poly}
+
+-- positions replaced by the monomials of a list
+abbrev pub fill : List Tree → Tree → Tree
+fill ms (leaf k) = slice_index_or ms k (leaf k)
+fill ms (node l r) = node (fill ms l) (fill ms r)
+
+-- `x` put in at every place of a list
+abbrev pub insertions : {X : Type 0} → X → List X → List (List X)
+insertions x [] = (x ∷ []) ∷ []
+insertions x (y ∷ ys) = (x ∷ y ∷ ys) ∷ map (λ zs. y ∷ zs) (insertions x ys)
+
+-- all orders of a list
+abbrev pub orders : {X : Type 0} → List X → List (List X)
+orders [] = [] ∷ []
+orders (x ∷ xs) = flat_map (insertions x) (orders xs)
+
+-- all orders of each of the blocks, whose lengths are `e`
+abbrev pub arrangements : {X : Type 0} → List ℕ → List X → List (List X)
+arrangements [] xs = [] ∷ []
+arrangements (n ∷ e) xs = flat_map (λ a. map (λ b. a ++ b) (arrangements e (drop n xs))) (orders (take n xs))
+
+-- each occurrence of a variable replaced by its number: `next v` for the first of `v` from the left, and so on
+abbrev pub numbered : (ℕ → ℕ) → Tree → Tree
+numbered next (leaf v) = leaf (next v)
+numbered next (node l r) = node (numbered next l) (numbered (λ v. next v + count v l) r)
+
+-- the first number of a variable: the degrees of those before it
+abbrev pub first_number : List ℕ → ℕ → ℕ
+first_number e v = sum (take v e)
+
+-- The instance of an identity of type `e` at monomials: for every term and every arrangement, the occurrences of the
+-- variables are replaced by the monomials of their blocks, in the order of the arrangement.
+abbrev pub identity_instance : List ℕ → Poly → List Tree → Poly
+identity_instance e f ms = flat_map (λ t. map (λ a. (t.0, fill a (numbered (first_number e) t.1))) (arrangements e ms)) f
+
+-- the numbers from `k` on, `n` of them, as monomials
+abbrev pub positions : ℕ → ℕ → List Tree
+positions k zero = []
+positions k (suc n) = leaf k ∷ positions (suc k) n
+
+-- a multilinear form: monomials over the positions below `degree`
+pub record Form : Type 0 where
+  pub degree : ℕ
+  pub terms : Poly
+
+-- the full linearization: the instance at the positions themselves
+abbrev pub linearization : List ℕ → Poly → Form
+linearization e f = record { degree = sum e; terms = identity_instance e f (positions 0 (sum e)) }
+
+-- the instance of a form at monomials
+abbrev pub instance : Form → List Tree → Poly
+instance f ms = reindex (fill ms) f.terms
+
+-- the sum of `w` over the leaves
+abbrev pub leaves : (ℕ → ℕ) → Tree → ℕ
+leaves w (leaf k) = w k
+leaves w (node l r) = leaves w l + leaves w r
+
+-- `w k` and so on, `n` of them, added up
+abbrev pub run : (ℕ → ℕ) → ℕ → ℕ → ℕ
+run w k zero = 0
+run w k (suc n) = w k + run w (suc k) n
+
+-- each position below `n` is a leaf once, and there is no other leaf
+abbrev pub IsMultilinear : ℕ → Tree → Type 0
+IsMultilinear n m = (w : ℕ → ℕ) → leaves w m ≡ run w 0 n
+
+-- every term is multilinear
+abbrev pub IsMultilinearForm : Form → Type 0
+IsMultilinearForm f = Each (λ t. IsMultilinear f.degree t.1) f.terms

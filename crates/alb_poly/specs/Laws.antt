@@ -1,0 +1,28 @@
+-- The laws of polynomials and consequences.
+use Rattle.std.specs.Prelude.{◌≡◌, ◌<◌, ℕ, ◌++◌, List, length}
+use Rattle.gf_sums.specs.Sums.{scale, reindex, IsCanonical}
+use Rattle.alb_mono.specs.Tree.{Tree, cmp_monos}
+use Rattle.alb_mono.specs.declared.side.Side.{Side}
+use Rattle.alb_poly.specs.Poly.{Poly, IsSamePoly}
+use Rattle.alb_poly.specs.Normal.{normal}
+use Rattle.alb_poly.specs.Context.{beside}
+use Rattle.alb_poly.specs.Instance.{Form, instance}
+use Rattle.alb_poly.specs.Consequence.{IsConsequence, form_at}
+
+-- sums, multiples and products with a monomial of consequences are consequences
+pub record ConsequencesAreClosed (p : ℕ) (fs : List Form) : Type 0 where
+  pub instances : (k : ℕ) (ms : List Tree) → k < length fs → length ms ≡ (form_at fs k).degree → IsConsequence p fs (instance (form_at fs k) ms)
+  pub sums : (f g : Poly) → IsConsequence p fs f → IsConsequence p fs g → IsConsequence p fs (f ++ g)
+  pub multiples : (c : ℕ) (f : Poly) → IsConsequence p fs f → IsConsequence p fs (scale c f)
+  pub products : (s : Side × Tree) (f : Poly) → IsConsequence p fs f → IsConsequence p fs (reindex (beside s) f)
+
+abbrev pub ClosureLaw : Type 0
+ClosureLaw = (p : ℕ) (fs : List Form) → ConsequencesAreClosed p fs
+
+-- The normal form of a polynomial: the one descending list without zeros that has its coefficients.
+pub record IsNormalForm (p : ℕ) (f g : Poly) : Type 0 where
+  pub canonical : IsCanonical cmp_monos p g
+  pub same : IsSamePoly p g f
+
+abbrev pub NormalFormLaw : Type 0
+NormalFormLaw = (p : ℕ) (f : Poly) → 0 < p → IsNormalForm p f (normal p f) × ((g : Poly) → IsNormalForm p f g → g ≡ normal p f)

@@ -1,0 +1,14 @@
+pub mod Poly
+pub mod Normal
+pub mod Terms
+pub mod Sorted
+pub mod Context
+pub mod Instance
+pub mod Identity
+pub mod Consequence
+pub mod Algebra
+pub mod Textbook
+pub mod Laws
+pub mod Components
+pub mod Runs
+pub mod Rules

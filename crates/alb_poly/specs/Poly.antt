@@ -1,0 +1,46 @@
+-- Polynomials: combinations of monomials in the free nonassociative algebra.
+use Rattle.std.specs.Prelude.{ℕ, ◌<◌, length, ◌==◌, ◌&&◌, max, Bool, true, false, List, [], ◌∷◌, All}
+use Rattle.std.specs.List.{filter}
+use Rattle.gf_sums.specs.Sums.{Comb, AreSame, multiply, AllBefore}
+use Rattle.alb_mono.specs.Tree.{Tree, leaf, node, degree, type_of, cmp_monos, same_tree}
+
+-- a list of (coefficient, monomial)
+abbrev pub Poly : Type 0
+Poly = Comb Tree
+
+-- equal polynomials: the same coefficient modulo `p` at every monomial
+abbrev pub IsSamePoly : ℕ → Poly → Poly → Type 0
+IsSamePoly p f g = AreSame same_tree p f g
+
+-- a generator by itself
+abbrev pub generator : ℕ → Poly
+generator k = (1, leaf k) ∷ []
+
+-- the product of two polynomials
+abbrev pub product : Poly → Poly → Poly
+product f g = multiply (λ l r. (1, node l r) ∷ []) f g
+
+-- every coefficient is below `p`
+abbrev pub AreResidues : ℕ → Poly → Type 0
+AreResidues p f = All (λ t. t.0 < p) f
+
+-- strictly descending by the order of monomials, with no coefficient 0
+abbrev pub IsDescending : Poly → Type 0
+IsDescending [] = Unit {0}
+IsDescending (t ∷ f) = (0 < t.0) × AllBefore cmp_monos t.1 f × IsDescending f
+
+-- the greatest degree of a monomial; 0 where there is none
+abbrev pub greatest_degree : Poly → ℕ
+greatest_degree [] = 0
+greatest_degree (t ∷ f) = max (degree t.1) (greatest_degree f)
+
+-- whether two lists of numbers are one
+abbrev pub list_eq : List ℕ → List ℕ → Bool
+list_eq [] [] = true
+list_eq [] (y ∷ ys) = false
+list_eq (x ∷ xs) [] = false
+list_eq (x ∷ xs) (y ∷ ys) = x == y && list_eq xs ys
+
+-- the homogeneous part of the type `e`: the terms whose monomials have it
+abbrev pub part : List ℕ → Poly → Poly
+part e f = filter (λ t. list_eq (type_of (length e) t.1) e) f

@@ -1,0 +1,40 @@
+-- How monomials, polynomials and types print.
+use Rattle.std.specs.Prelude.{ℕ, ◌-◌, ◌*◌, ◌==◌, nat_lt, Bool, true, false, if◌then◌else◌, List, [], ◌∷◌, ◌++◌, map, slice_index, codes}
+use Rattle.std.specs.List.{flat_map, join_with_byte}
+use Rattle.std.specs.Fmt.{decimal}
+use Rattle.alb_mono.specs.Tree.{Tree, leaf, node}
+use Rattle.alb_poly.specs.Poly.{Poly}
+
+-- in round brackets, where `inner` says so
+abbrev pub in_brackets : Bool → List ℕ → List ℕ
+in_brackets true text = 40 ∷ text ++ 41 ∷ []
+in_brackets false text = text
+
+-- A monomial: its letter, or its left factor and then its right one. A factor that is a product stands in brackets.
+abbrev pub mono_text : List ℕ → Bool → Tree → List ℕ
+mono_text letters inner (leaf k) = slice_index letters k ∷ []
+mono_text letters inner (node l r) = in_brackets inner (mono_text letters true l ++ mono_text letters true r)
+
+-- the signed residue: its sign and its absolute value
+abbrev pub is_negative : ℕ → ℕ → Bool
+is_negative p r = nat_lt p (2 * r)
+
+abbrev pub absolute : ℕ → ℕ → ℕ
+absolute p r = if is_negative p r then p - r else r
+
+-- a term without its sign; 1 is left out
+abbrev pub term_text : ℕ → List ℕ → ℕ × Tree → List ℕ
+term_text p letters t = (if absolute p t.0 == 1 then [] else decimal (absolute p t.0)) ++ mono_text letters false t.1
+
+-- a term behind another one
+abbrev pub later_text : ℕ → List ℕ → ℕ × Tree → List ℕ
+later_text p letters t = (if is_negative p t.0 then codes " - " else codes " + ") ++ term_text p letters t
+
+-- a polynomial, by the list of its terms
+abbrev pub poly_text : ℕ → List ℕ → Poly → List ℕ
+poly_text p letters [] = codes "0"
+poly_text p letters (t ∷ f) = (if is_negative p t.0 then codes "-" else []) ++ term_text p letters t ++ flat_map (later_text p letters) f
+
+-- a type: its counts in the order of the generators, with commas, in round brackets
+abbrev pub type_text : List ℕ → List ℕ
+type_text counts = 40 ∷ join_with_byte 44 (map decimal counts) ++ 41 ∷ []

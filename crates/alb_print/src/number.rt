@@ -1,0 +1,27 @@
+ghost use Rattle.std.specs.Prelude.{◌≡◌, decimal};
+ghost use Rattle.std.specs.Fmt.{signed_decimal};
+ghost use Rattle.alb_io.specs.Causes.{HasCause};
+ghost use Rattle.alb_io.specs.Puts.{Puts};
+
+use alb_io::{Sink, WriteFault, put_all};
+use itoa::Buffer;
+
+// Writes a number that is not negative.
+pub fn write_count<K: Sink>(sink: &mut K, number: u64) -> Result<(), WriteFault>
+    ensures puts { Puts result (K.taken sink.old) (K.taken sink.new) (decimal number) }
+    ensures same_name { K.name sink.new ≡ K.name sink.old }
+    ensures cause { HasCause (K.faults sink.old) (K.faults sink.new) result }
+{
+    let mut buffer = Buffer::new();
+    put_all(sink, buffer.format(number).as_bytes())
+}
+
+/// Writes a number in decimal, with `-` before a negative one.
+pub fn write_number<K: Sink>(sink: &mut K, n: i64) -> Result<(), WriteFault>
+    ensures puts { Puts result (K.taken sink.old) (K.taken sink.new) (signed_decimal n) }
+    ensures same_name { K.name sink.new ≡ K.name sink.old }
+    ensures cause { HasCause (K.faults sink.old) (K.faults sink.new) result }
+{
+    let mut buffer = Buffer::new();
+    put_all(sink, buffer.format(n).as_bytes())
+}

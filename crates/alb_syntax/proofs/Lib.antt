@@ -1,0 +1,11 @@
+pub mod Binds
+pub mod Kept
+pub mod Loose
+pub mod Powers
+pub mod Turns
+pub mod Shrinks
+pub mod Again
+pub mod Found
+pub mod Vectors
+pub mod Monomials
+pub mod Known

@@ -1,0 +1,15 @@
+//! Tokens as polynomials and as monomials.
+#![tactic(auto)]
+
+mod error;
+mod monomial;
+mod operations;
+mod reading;
+mod setting;
+mod sums;
+#[cfg(test)]
+mod tests;
+
+pub use error::SyntaxError;
+pub use monomial::read_mono;
+pub use reading::read_poly;

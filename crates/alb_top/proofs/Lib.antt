@@ -1,0 +1,5 @@
+pub mod WordLemmas
+pub mod LinearLemmas
+pub mod Going
+pub mod RunLemmas
+pub mod Justified

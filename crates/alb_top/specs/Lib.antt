@@ -1,0 +1,10 @@
+pub mod Script
+pub mod Words
+pub mod Pieces
+pub mod View
+pub mod Readings
+pub mod Answered
+pub mod Forms
+pub mod Runs
+pub mod Outcome
+pub mod Going

@@ -1,0 +1,14 @@
+//! The top call of the program `albert`: words, an input and an output in, a status out.
+#![tactic(auto)]
+
+mod block;
+mod reading;
+mod reply;
+mod run;
+mod script;
+#[cfg(test)]
+mod tests;
+mod words;
+mod write;
+
+pub use run::run_albert;

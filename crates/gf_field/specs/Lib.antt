@@ -1,0 +1,3 @@
+pub mod Primes
+pub mod Modular
+pub mod Laws

@@ -1,0 +1,4 @@
+pub mod Totals
+pub mod Alike
+pub mod Canonical
+pub mod Vectors
