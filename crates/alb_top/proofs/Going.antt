@@ -17,7 +17,9 @@ use Rattle.alb_top.specs.Going.{Going, ReadsLine, Outcome}
 use Rattle.alb_top.specs.declared.reply.Place.TheVariants as place
 use Rattle.alb_top.specs.declared.reply.Reply.{Reply}
 use Rattle.alb_io.specs.declared.status.Status.TheVariants as status
-use Rattle.alb_top.proofs.RunLemmas.{Run-join, Run-one, Run-some, Run-closed, Finish-closed}
+use Rattle.alb_top.proofs.SoundLemmas.{sound-start}
+use Rattle.alb_top.specs.Sound.{IsSound}
+use Rattle.alb_top.proofs.RunLemmas.{Run-sound, Run-join, Run-one, Run-some, Run-closed, Finish-closed}
 
 pub Going-start : (reader : Reader) (first before : Option (List ℕ)) → reader.held ≡ [] → reader.at_end ≡ false → reader.room ≡ 2 ^ 40 → Going reader start first first before before
 Going-start reader first before none running room = record {
@@ -30,10 +32,10 @@ Going-start reader first before none running room = record {
   room = omega (arith, room);
 }
 
-Step-answer : (script next : State) (line : List ℕ) (reply : Reply) → (reply, next) ≡ answer_to script line → Step script line (text_of reply) next
-Step-answer script next line reply is =
+Step-answer : (script next : State) (line : List ℕ) (reply : Reply) → IsSound script → (reply, next) ≡ answer_to script line → Step script line (text_of reply) next
+Step-answer script next line reply sound is =
     let new : next ≡ (answer_to script line).1 = ap (λ r. r.1) is in
-    (ap (λ r. text_of r.0) is, new, subst (λ n. Justified (answer_to script line).0 n) (sym new) (justified script line))
+    (ap (λ r. text_of r.0) is, new, subst (λ n. Justified (answer_to script line).0 n) (sym new) (justified script line sound))
 
 -- a line was read and answered
 pub Going-line : (old new : Reader) (script next : State) (first now now' before after after' : Option (List ℕ)) (line : List ℕ) (reply : Reply)
@@ -45,7 +47,7 @@ Going-line old new script next first now now' before after after' line reply p r
   text = p.text ++ text_of reply;
   reading = Reading-first p.taken p.lines line old new first now now' r.answer p.reading r.reads r.is_first;
   written = Appends-trans before after after' p.text (text_of reply) p.written put;
-  run = Run-join Step start script next p.lines (line ∷ []) p.text (text_of reply) p.run (Run-one Step script next line (text_of reply) (Step-answer script next line reply is));
+  run = Run-join Step start script next p.lines (line ∷ []) p.text (text_of reply) p.run (Run-one Step script next line (text_of reply) (Step-answer script next line reply (Run-sound start script p.lines p.text sound-start p.run) is));
   room = omega (arith, p.room, r.reads.room, length-append p.taken r.reads.got);
 }
 
@@ -65,7 +67,7 @@ ReadsLine-smaller old new now now' line r =
 -- what was appended is a front of the transcript of the input
 front_of : (input : List ℕ) (lines more : List (List ℕ)) (text front rest : List ℕ) (script : State) → lines_of input ≡ lines ++ more → Run Step start lines text script → text ≡ front ++ rest → IsFront input front
 front_of input lines more text front rest script is run cut =
-    let others = Run-some script more in
+    let others = Run-some script more (Run-sound start script lines text sound-start run) in
     let answer = answer_to_end others.1 in
     let whole : front ++ (rest ++ others.0 ++ text_of answer.0) ≡ (text ++ others.0) ++ text_of answer.0 =
     sym (append_assoc front (rest ++ others.0) (text_of answer.0)) ∙ ap (λ l. l ++ text_of answer.0) (sym (append_assoc front rest others.0) ∙ ap (λ l. l ++ others.0) (sym cut)) in
@@ -189,7 +191,7 @@ pub Outcome-write_fault : (old new : Reader) (script next : State) (first now no
     → Outcome status.WriteFault first now' before after'
 Outcome-write_fault old new script next first now now' before after after' line reply p r is put =
     let reading = Reading-first p.taken p.lines line old new first now now' r.answer p.reading r.reads r.is_first in
-    let run = Run-join Step start script next p.lines (line ∷ []) p.text (text_of reply) p.run (Run-one Step script next line (text_of reply) (Step-answer script next line reply is)) in
+    let run = Run-join Step start script next p.lines (line ∷ []) p.text (text_of reply) p.run (Run-one Step script next line (text_of reply) (Step-answer script next line reply (Run-sound start script p.lines p.text sound-start p.run) is)) in
     record {
       taken = p.taken ++ r.reads.got;
       text = p.text ++ put.front;

@@ -6,10 +6,12 @@ use Rattle.alb_top.specs.Words.{after, is_word, generators_of, line_of}
 use Rattle.std.specs.Option.{option_map}
 use Rattle.std.proofs.lemmas.Bool.{false≢true}
 use Rattle.alb_poly.specs.Poly.{Poly}
-use Rattle.alb_poly.specs.Consequence.{IsConsequence}
+use Rattle.alb_poly.specs.Textbook.{IsTextConsequence}
 use Rattle.alb_deriv.specs.Derivation.{Fault, claim_fault}
 use Rattle.alb_deriv.proofs.Judged.{no_fault-derivation, derived-consequence}
 use Rattle.alb_top.specs.Script.{State, Refusal, Justified, or_refused, asked, answer_at, answer_to, identity_of, claim_of, poly_at, behind, judged, is_multilinear}
+use Rattle.alb_top.specs.Sound.{IsSound}
+use Rattle.alb_top.proofs.SoundLemmas.{text-consequence}
 use Rattle.alb_top.specs.declared.reply.Place.{Place}
 use Rattle.alb_top.specs.declared.reply.Place.TheVariants as place
 use Rattle.alb_top.specs.declared.reply.Reply.{Reply}
@@ -43,7 +45,7 @@ none_is : (o : Option (Fault × ℕ)) → is_none o ≡ true → o ≡ None
 none_is None h = refl
 none_is (Some x) h = absurd (false≢true h)
 
-judged_is : (b : Bool) (s : State) → (b ≡ true → IsConsequence 251 s.forms s.claim) → Is (Some (judged b s))
+judged_is : (b : Bool) (s : State) → (b ≡ true → IsTextConsequence 251 s.identities s.claim) → Is (Some (judged b s))
 judged_is true s h = h refl
 judged_is false s h = tt
 
@@ -59,34 +61,34 @@ build_is s line =
     choice (is_word (codes "build") line && nat_lt 0 (length s.forms)) ready later fine
     (choice (nat_lt (length s.forms) 32) named None (choice (is_none (after (codes "identity ") line)) None read fine (identity_is s (poly_at alphabet 9 line))) fine)
 
-end_is : (s : State) (line : List ℕ) → Is (asked place.Block s line)
-end_is s line =
+end_is : (s : State) (line : List ℕ) → IsSound s → Is (asked place.Block s line)
+end_is s line h =
     let found : Option (Fault × ℕ) = claim_fault 251 s.target s.forms s.claim s.lines in
     choice (is_word (codes "end") line) (Some (judged (is_none found) s)) (option_map (λ l. (reply.Nothing, record s { lines = s.lines ++ l ∷ [] })) (line_of s.letters (length s.lines + 1) line))
-    (judged_is (is_none found) s (λ e. derived-consequence 251 s.target s.forms s.claim s.lines (no_fault-derivation 251 s.target s.forms s.claim s.lines (omega arith) (none_is found e))))
+    (judged_is (is_none found) s (λ e. text-consequence s h (derived-consequence 251 s.target s.forms s.claim s.lines (no_fault-derivation 251 s.target s.forms s.claim s.lines (omega arith) (none_is found e)))))
     (mapped (λ l. (reply.Nothing, record s { lines = s.lines ++ l ∷ [] })) (line_of s.letters (length s.lines + 1) line) (λ l. fine))
 
-asked_is : (p : Place) (s : State) (line : List ℕ) → Is (asked p s line)
-asked_is place.Generators s line =
+asked_is : (p : Place) (s : State) (line : List ℕ) → IsSound s → Is (asked p s line)
+asked_is place.Generators s line h =
     mapped (λ ps. (reply.Ok, record s { place = place.Identities; letters = map (λ q. q.1) ps; target = map (λ q. q.0) ps })) (generators_of line) (λ ps. fine)
-asked_is place.Identities s line = build_is s line
-asked_is place.Claim s line = choice (is_none (after (codes "claim ") line)) None (claim_of s (poly_at s.letters 6 line)) fine (claim_is s (poly_at s.letters 6 line))
-asked_is place.Derivation s line = choice (is_word (codes "derivation") line) (Some (reply.Nothing, record s { place = place.Block })) None fine fine
-asked_is place.Block s line = end_is s line
-asked_is place.InputEnd s line = fine
-asked_is place.Closed s line = fine
+asked_is place.Identities s line h = build_is s line
+asked_is place.Claim s line h = choice (is_none (after (codes "claim ") line)) None (claim_of s (poly_at s.letters 6 line)) fine (claim_is s (poly_at s.letters 6 line))
+asked_is place.Derivation s line h = choice (is_word (codes "derivation") line) (Some (reply.Nothing, record s { place = place.Block })) None fine fine
+asked_is place.Block s line h = end_is s line h
+asked_is place.InputEnd s line h = fine
+asked_is place.Closed s line h = fine
 
-short_is : (p : Place) (s : State) (line : List ℕ) → Justified (or_refused s (if nat_lt 65536 (length line) then None else asked p s line)).0 (or_refused s (if nat_lt 65536 (length line) then None else asked p s line)).1
-short_is p s line = or_is s _ (choice (nat_lt 65536 (length line)) None (asked p s line) tt (asked_is p s line))
+short_is : (p : Place) (s : State) (line : List ℕ) → IsSound s → Justified (or_refused s (if nat_lt 65536 (length line) then None else asked p s line)).0 (or_refused s (if nat_lt 65536 (length line) then None else asked p s line)).1
+short_is p s line h = or_is s _ (choice (nat_lt 65536 (length line)) None (asked p s line) tt (asked_is p s line h))
 
-at_is : (p : Place) (s : State) (line : List ℕ) → Justified (answer_at p s line).0 (answer_at p s line).1
-at_is place.Generators s line = short_is place.Generators s line
-at_is place.Identities s line = short_is place.Identities s line
-at_is place.Claim s line = short_is place.Claim s line
-at_is place.Derivation s line = short_is place.Derivation s line
-at_is place.Block s line = short_is place.Block s line
-at_is place.InputEnd s line = short_is place.InputEnd s line
-at_is place.Closed s line = tt
+at_is : (p : Place) (s : State) (line : List ℕ) → IsSound s → Justified (answer_at p s line).0 (answer_at p s line).1
+at_is place.Generators s line h = short_is place.Generators s line h
+at_is place.Identities s line h = short_is place.Identities s line h
+at_is place.Claim s line h = short_is place.Claim s line h
+at_is place.Derivation s line h = short_is place.Derivation s line h
+at_is place.Block s line h = short_is place.Block s line h
+at_is place.InputEnd s line h = short_is place.InputEnd s line h
+at_is place.Closed s line h = tt
 
-pub justified : (s : State) (line : List ℕ) → Justified (answer_to s line).0 (answer_to s line).1
-justified s line = at_is s.place s line
+pub justified : (s : State) (line : List ℕ) → IsSound s → Justified (answer_to s line).0 (answer_to s line).1
+justified s line h = at_is s.place s line h

@@ -3,3 +3,4 @@ pub mod LinearLemmas
 pub mod Going
 pub mod RunLemmas
 pub mod Justified
+pub mod SoundLemmas

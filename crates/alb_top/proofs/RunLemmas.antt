@@ -2,6 +2,8 @@
 use Rattle.std.proofs.Common.{◌≡◌, ℕ, List, [], ◌∷◌, ◌++◌, refl, sym, ap, ◌∙◌, subst, append_assoc}
 use Rattle.std.proofs.lemmas.List.{append-nil}
 use Rattle.alb_top.proofs.Justified.{justified}
+use Rattle.alb_top.proofs.SoundLemmas.{sound-step}
+use Rattle.alb_top.specs.Sound.{IsSound}
 use Rattle.alb_top.specs.Runs.{Run}
 use Rattle.alb_top.specs.Script.{State, Step, Justified, Finish, answer_to, answer_at, end_at, text_of}
 use Rattle.alb_top.specs.declared.reply.Place.TheVariants as place
@@ -17,12 +19,18 @@ pub Run-one : {S : Type 0} (by : S → List ℕ → List ℕ → S → Type 0) (
 Run-one by old new line t p = (t, [], new, sym (append-nil t), p, (refl, refl))
 
 -- each script has a transcript
-pub Run-some : (old : State) (lines : List (List ℕ)) → (t : List ℕ) × (new : State) × Run Step old lines t new
-Run-some old [] = ([], old, (refl, refl))
-Run-some old (line ∷ lines) =
+pub Run-some : (old : State) (lines : List (List ℕ)) → IsSound old → (t : List ℕ) × (new : State) × Run Step old lines t new
+Run-some old [] sound = ([], old, (refl, refl))
+Run-some old (line ∷ lines) sound =
     let answer = answer_to old line in
-    let rest = Run-some answer.1 lines in
-    (text_of answer.0 ++ rest.0, rest.1, (text_of answer.0, rest.0, answer.1, refl, (refl, refl, justified old line), rest.2))
+    let rest = Run-some answer.1 lines (sound-step old line sound) in
+    (text_of answer.0 ++ rest.0, rest.1, (text_of answer.0, rest.0, answer.1, refl, (refl, refl, justified old line sound), rest.2))
+
+-- a run leads from a sound state to a sound state
+pub Run-sound : (old new : State) (lines : List (List ℕ)) (t : List ℕ) → IsSound old → Run Step old lines t new → IsSound new
+Run-sound old new [] t sound run = subst (λ (s : State). IsSound s) (sym run.1) sound
+Run-sound old new (line ∷ lines) t sound run =
+    Run-sound run.2 new lines run.1 (subst (λ (s : State). IsSound s) (sym run.4.1) (sound-step old line sound)) run.5
 
 -- behind the end of a script the lines are not read
 pub Run-closed : (s : State) (lines : List (List ℕ)) → s.place ≡ place.Closed → Run Step s lines [] s

@@ -8,3 +8,4 @@ pub mod Forms
 pub mod Runs
 pub mod Outcome
 pub mod Going
+pub mod Sound

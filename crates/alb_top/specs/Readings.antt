@@ -8,6 +8,7 @@ use Rattle.alb_poly.specs.Poly.{Poly}
 use Rattle.alb_poly.specs.Rules.{form}
 use Rattle.alb_poly.specs.declared.rules.Linear.{Linear}
 use Rattle.alb_linear.specs.Identity.{IsLinearized}
+use Rattle.alb_linear.specs.declared.identity.Identity.{Identity}
 use Rattle.alb_top.specs.Script.{Refusal, is_multilinear, linear_form}
 use Rattle.alb_top.specs.declared.reading.ReadError.{ReadError}
 use Rattle.alb_top.specs.declared.reading.ReadError.TheVariants as errors
@@ -31,7 +32,7 @@ Reads (Ok f) read = read ≡ Ok f
 Reads (Err (errors.Refused code at)) read = read ≡ Err (code, at)
 Reads (Err errors.NoMemory) read = Unit {0}
 
--- the linearized identity, or that the polynomial is none in which each variable stands once in each term
-abbrev pub Linears : Option Linear → Poly → Type 0
+-- the identity and its linearization, or that the polynomial is none in which each variable stands once in each term
+abbrev pub Linears : Option (Identity × Linear) → Poly → Type 0
 Linears None f = is_multilinear f ≡ false
-Linears (Some l) f = (is_multilinear f ≡ true) × (form l ≡ linear_form f) × IsLinearized 251 (form l)
+Linears (Some (h, l)) f = (is_multilinear f ≡ true) × (h.poly ≡ f) × (form l ≡ linear_form f) × IsLinearized 251 (form l)

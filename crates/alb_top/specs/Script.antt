@@ -12,7 +12,7 @@ use Rattle.alb_syntax.specs.declared.error.SyntaxError.TheVariants as syntax
 use Rattle.alb_poly.specs.Poly.{Poly}
 use Rattle.alb_poly.specs.Normal.{normal}
 use Rattle.alb_poly.specs.Instance.{Form, linearization}
-use Rattle.alb_poly.specs.Consequence.{IsConsequence}
+use Rattle.alb_poly.specs.Textbook.{IsTextConsequence}
 use Rattle.alb_linear.specs.Identity.{leading_type, identity_fault}
 use Rattle.alb_deriv.specs.Derivation.{Line, claim_fault}
 use Rattle.alb_top.specs.Words.{after, is_word, generators_of, line_of}
@@ -21,19 +21,20 @@ use Rattle.alb_top.specs.declared.reply.Place.TheVariants as place
 use Rattle.alb_top.specs.declared.reply.Reply.{Reply}
 use Rattle.alb_top.specs.declared.reply.Reply.TheVariants as reply
 
--- How far a script has come: what it asks for next; the generators' letters and how often each may occur; the linearized
--- identities; the claim and the lines of its derivation; and whether all was accepted.
+-- How far a script has come: what it asks for next; the generators' letters and how often each may occur; the identities,
+-- and their linearizations; the claim and the lines of its derivation; and whether all was accepted.
 pub record State : Type 0 where
   pub place : Place
   pub letters : List ℕ
   pub target : List ℕ
+  pub identities : List Poly
   pub forms : List Form
   pub claim : Poly
   pub lines : List Line
   pub clean : Bool
 
 abbrev pub start : State
-start = record { place = place.Generators; letters = []; target = []; forms = []; claim = []; lines = []; clean = true }
+start = record { place = place.Generators; letters = []; target = []; identities = []; forms = []; claim = []; lines = []; clean = true }
 
 -- ---- polynomials
 
@@ -85,7 +86,7 @@ refused_at code at s = Some (reply.RefusedAt code at, close s)
 abbrev pub identity_of : State → Result Poly Refusal → Option (Reply × State)
 identity_of s (Err e) = refused_at e.0 e.1 s
 identity_of s (Ok f) =
-    if is_multilinear f then Some (reply.Identity (length s.forms + 1), record s { forms = s.forms ++ linear_form f ∷ [] }) else None
+    if is_multilinear f then Some (reply.Identity (length s.forms + 1), record s { identities = s.identities ++ f ∷ []; forms = s.forms ++ linear_form f ∷ [] }) else None
 
 abbrev pub claim_of : State → Result Poly Refusal → Option (Reply × State)
 claim_of s (Err e) = refused_at e.0 e.1 s
@@ -147,9 +148,10 @@ text_of reply.Rejected = codes "rejected\n"
 text_of (reply.RefusedAt code at) = codes "refused " ++ decimal code ++ (codes " at " ++ decimal at ++ codes "\n")
 text_of reply.Refused = codes "refused 90\n"
 
--- `accepted zero` stands only where the claim is a consequence of the identities
+-- `accepted zero` stands only where the claim is a consequence of the identities, in the textbook's sense: it equals a sum of
+-- multiples of values of the identities, at any polynomials, in contexts
 abbrev pub Justified : Reply → State → Type 0
-Justified reply.Accepted s = IsConsequence 251 s.forms s.claim
+Justified reply.Accepted s = IsTextConsequence 251 s.identities s.claim
 Justified other s = Unit {0}
 
 -- one line of the transcript

@@ -9,7 +9,7 @@ use Rattle.alb_top.specs.declared.reply.Place.TheVariants as place
 use Rattle.alb_top.specs.declared.script.Script.{Script}
 
 abbrev pub state : Script → State
-state s = record { place = s.place; letters = s.letters; target = s.rules.target; forms = forms s.rules; claim = s.claim; lines = map line s.lines.items; clean = s.clean }
+state s = record { place = s.place; letters = s.letters; target = s.rules.target; identities = map (λ f. f.poly) s.identities.items; forms = forms s.rules; claim = s.claim; lines = map line s.lines.items; clean = s.clean }
 
 -- what is true of every script
 pub record IsScript (s : Script) : Type 0 where

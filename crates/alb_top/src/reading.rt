@@ -90,8 +90,13 @@ fn is_linear(f: &Identity) -> bool
     are_at_most_one(f.degrees.as_slice())
 }
 
-/// The linearized identity of a polynomial in which each variable stands once in each term; none where it is another one.
-pub fn linear_of(alloc: Global, field: &Field, f: Poly) -> Result<Option<Linear>, NoMemory>
+/// The identity that a polynomial is in which each variable stands once in each term, and its linearization; none where it
+/// is another polynomial.
+pub fn linear_of(
+    alloc: Global,
+    field: &Field,
+    f: Poly,
+) -> Result<Option<(Identity, Linear)>, NoMemory>
     requires field { field.now ≡ 251 }
     requires residues { AreResidues 251 f }
     requires few { length f ≤ 65536 }
@@ -106,7 +111,7 @@ pub fn linear_of(alloc: Global, field: &Field, f: Poly) -> Result<Option<Linear>
         return Ok(None);
     }
     match linearize(alloc, field, &identity) {
-        Ok(linear) => Ok(Some(linear)),
+        Ok(linear) => Ok(Some((identity, linear))),
         Err(error) => match error {
             IdentityError::NoMemory => Err(NoMemory),
             _ => Ok(None),

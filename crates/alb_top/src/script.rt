@@ -8,6 +8,7 @@ use crate::reading::{ReadError, counts_of, field_251, letters_of, linear_of, pol
 use crate::reply::{Place, Reply};
 use crate::words::{after, generators_of, is_word};
 use alb_deriv::{DerivError, Line, check_claim};
+use alb_linear::Identity;
 use alb_mono::{Letters, Multi, NoMemory};
 use alb_poly::{Poly, Rules};
 use std::alloc::Global;
@@ -20,6 +21,7 @@ const MOST_IDENTITIES: usize = 32;
 pub struct Script {
     place: Place,
     letters: Letters,
+    identities: Vec<Identity>,
     rules: Rules,
     claim: Poly,
     lines: Vec<Line>,
@@ -38,6 +40,7 @@ impl Script {
         Script {
             place: Place::Generators,
             letters: Letters::of(&[]),
+            identities: Vec::new(alloc),
             rules: Rules {
                 field: field_251(),
                 target: Multi::of(&[]),
@@ -101,10 +104,14 @@ impl Script {
             Err(ReadError::Refused(code, at)) => return Ok(self.refuse_at(code, at)),
             Err(ReadError::NoMemory) => return Err(NoMemory),
         };
-        let Some(linear) = linear_of(alloc, &self.rules.field, f)? else {
+        let Some((identity, linear)) = linear_of(alloc, &self.rules.field, f)? else {
             return Ok(self.refuse());
         };
-        self.rules.linears.push(linear)?;
+        self.identities.push(identity)?;
+        if self.rules.linears.push(linear).is_err() {
+            let _ = self.identities.pop();
+            return Err(NoMemory);
+        }
         Ok(Reply::Identity(self.rules.linears.len() as u64))
     }
 

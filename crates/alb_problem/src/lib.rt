@@ -1,0 +1,15 @@
+//! Problems: a field, generators with their counts, and identities; how they are put together; and the laws that tie their
+//! consequences to the textbook's.
+#![tactic(auto)]
+
+mod builder;
+mod error;
+mod generators;
+pub mod laws;
+mod problem;
+#[cfg(test)]
+mod tests;
+
+pub use builder::{FinishError, ProblemBuilder};
+pub use error::ProblemError;
+pub use problem::Problem;

@@ -1,0 +1,24 @@
+-- An error of reading that is not want of memory tells no want of memory.
+use Rattle.std.proofs.Common.{◌≡◌, false, refl}
+use Rattle.alb_lex.specs.declared.error.LexError.TheVariants as lex
+use Rattle.alb_syntax.specs.declared.error.SyntaxError.TheVariants as syntax
+use Rattle.alb_script.specs.Asked.{IsPlain}
+use Rattle.alb_script.specs.Refusals.{is_command_memory}
+use Rattle.alb_script.specs.declared.error.CommandError.{CommandError}
+use Rattle.alb_script.specs.declared.error.CommandError.TheVariants as errors
+
+pub plain-memory : (e : CommandError) → IsPlain e → (e ≡ errors.NoMemory → ⊥) → is_command_memory e ≡ false
+plain-memory errors.Unknown p h = refl
+plain-memory errors.NotYetBuilt p h = refl
+plain-memory errors.AlreadyBuilt p h = refl
+plain-memory (errors.BadArgument place) p h = refl
+plain-memory (errors.Lex lex.NoMemory) p h = absurd p
+plain-memory (errors.Lex (lex.BadByte place)) p h = refl
+plain-memory (errors.Lex (lex.NumberTooLong place)) p h = refl
+plain-memory (errors.Syntax syntax.NoMemory) p h = absurd p
+plain-memory (errors.Syntax (syntax.Expected place)) p h = refl
+plain-memory (errors.Syntax (syntax.UnknownLetter place)) p h = refl
+plain-memory (errors.Syntax (syntax.TooDeep place)) p h = refl
+plain-memory (errors.Syntax (syntax.TooManyTerms place)) p h = refl
+plain-memory (errors.Syntax (syntax.TooHigh place)) p h = refl
+plain-memory errors.NoMemory p h = absurd (h refl)

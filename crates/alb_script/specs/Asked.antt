@@ -1,0 +1,215 @@
+-- What a line of a script asks for.
+use Rattle.std.specs.Prelude.{◌≡◌, ℕ, ◌+◌, Bool, false, not, ◌&&◌, ◌==◌, nat_le, if◌then◌else◌, List, [], ◌∷◌, length, take, drop, position, slice_index, unwrap_or, Option, None, Some, Result, Ok, Err, All, IsTrue, ◌≤◌}
+use Rattle.alb_lex.specs.Lexing.{is_blank, tokens_from}
+use Rattle.alb_lex.specs.declared.token.Token.{Token}
+use Rattle.alb_lex.specs.declared.token.TokenKind.{TokenKind}
+use Rattle.alb_lex.specs.declared.token.TokenKind.TheVariants as kinds
+use Rattle.alb_lex.specs.declared.error.LexError.{LexError}
+use Rattle.alb_lex.specs.declared.error.LexError.TheVariants as lex
+use Rattle.alb_mono.specs.Letters.{alphabet}
+use Rattle.alb_mono.specs.Tree.{are_below}
+use Rattle.alb_poly.specs.Poly.{Poly, AreResidues}
+use Rattle.alb_syntax.specs.Reading.{denoted}
+use Rattle.alb_syntax.specs.declared.error.SyntaxError.{SyntaxError}
+use Rattle.alb_syntax.specs.declared.error.SyntaxError.TheVariants as syntax
+use Rattle.alb_script.specs.declared.form.Form.{Form}
+use Rattle.alb_script.specs.declared.word.Word.{Word}
+use Rattle.alb_script.specs.declared.word.Word.TheVariants as word
+use Rattle.alb_script.specs.declared.command.Command.{Command}
+use Rattle.alb_script.specs.declared.command.Command.TheVariants as commands
+use Rattle.alb_script.specs.declared.error.CommandError.{CommandError}
+use Rattle.alb_script.specs.declared.error.CommandError.TheVariants as errors
+use Rattle.alb_script.specs.Words.{word_named, belongs, is_early, is_late}
+
+-- what is asked for; the generators are tokens and the end place of the line
+pub data Asked : Type 0 where
+  Blank : Asked
+  Field : ℕ → Asked
+  Generators : List Token → ℕ → Asked
+  Identity : Poly → Asked
+  Build : Asked
+  Polynomial : Poly → Asked
+  Prove : Poly → Asked
+  Dimensions : Asked
+  Table : Asked
+  Claim : Poly → Asked
+  Await : ℕ → Asked
+  Quit : Asked
+
+infixl 10 ◌>>=◌
+abbrev pub ◌>>=◌ : {A B : Type 0} → Result A CommandError → (A → Result B CommandError) → Result B CommandError
+(Ok x) >>= f = f x
+(Err e) >>= f = Err e
+
+-- ---- arguments: what stands in the line from the byte `at` on
+
+-- where the first byte that is no blank stands
+abbrev pub dense : List ℕ → Option ℕ
+dense text = position (λ b. not (is_blank b)) text
+
+-- the tokens, or the first lexical fault
+abbrev pub or_lex : {A : Type 0} → Result A LexError → Result A CommandError
+or_lex (Ok ts) = Ok ts
+or_lex (Err e) = Err (errors.Lex e)
+
+abbrev pub or_syntax : {A : Type 0} → Result A SyntaxError → Result A CommandError
+or_syntax (Ok f) = Ok f
+or_syntax (Err e) = Err (errors.Syntax e)
+
+abbrev pub tokens_at : ℕ → List ℕ → Result (List Token) CommandError
+tokens_at at line = or_lex (tokens_from false (at + 1) (drop at line))
+
+-- the polynomial over these letters, or the first fault
+unfoldable pub poly_at : ℕ → List ℕ → ℕ → List ℕ → Result Poly CommandError
+poly_at p letters at line = tokens_at at line >>= λ ts. or_syntax (denoted (record { field = p; letters = letters; end = length line + 1 }) ts)
+
+-- the place of the argument's first byte, or the end place
+abbrev pub place_at : ℕ → List ℕ → ℕ
+place_at at line = at + unwrap_or (dense (drop at line)) (length (drop at line)) + 1
+
+-- nothing stands there
+abbrev pub when_none : Asked → ℕ → Option ℕ → Result Asked CommandError
+when_none asked at None = Ok asked
+when_none asked at (Some k) = Err (errors.BadArgument (at + k + 1))
+
+abbrev pub alone : Asked → ℕ → List ℕ → Result Asked CommandError
+alone asked at line = when_none asked at (dense (drop at line))
+
+-- the number of a token
+abbrev pub number_in : TokenKind → Option ℕ
+number_in (kinds.Number n) = Some n
+number_in other = None
+
+-- the one number that a text is
+abbrev pub only_number : Result (List Token) LexError → Option ℕ
+only_number (Ok []) = None
+only_number (Ok (t ∷ [])) = number_in t.kind
+only_number (Ok (t ∷ u ∷ ts)) = None
+only_number (Err e) = None
+
+abbrev pub or_bad : ℕ → Option ℕ → Result ℕ CommandError
+or_bad place (Some n) = Ok n
+or_bad place None = Err (errors.BadArgument place)
+
+-- the one number of 1 to 18 digits that stands there
+unfoldable pub number_at : ℕ → List ℕ → Result ℕ CommandError
+number_at at line = or_bad (place_at at line) (only_number (tokens_from false (at + 1) (drop at line)))
+
+-- a degree, which is 1 to the total degree
+unfoldable pub degree_at : ℕ → ℕ → List ℕ → Result ℕ CommandError
+degree_at total at line = number_at at line >>= λ n. if nat_le 1 n && nat_le n total then Ok n else Err (errors.BadArgument (place_at at line))
+
+-- ---- commands
+
+-- what a word asks for with the argument that stands behind it
+unfoldable pub asked_by : ℕ → ℕ → List ℕ → Word → ℕ → List ℕ → Result Asked CommandError
+asked_by total p letters word.Field at line = number_at at line >>= λ n. Ok (Field n)
+asked_by total p letters word.Generators at line = tokens_at at line >>= λ ts. Ok (Generators ts (length line + 1))
+asked_by total p letters word.Identity at line = poly_at p alphabet at line >>= λ f. Ok (Identity f)
+asked_by total p letters word.Build at line = alone Build at line
+asked_by total p letters word.Polynomial at line = poly_at p letters at line >>= λ f. Ok (Polynomial f)
+asked_by total p letters word.Prove at line = poly_at p letters at line >>= λ f. Ok (Prove f)
+asked_by total p letters word.Dimensions at line = alone Dimensions at line
+asked_by total p letters word.Table at line = alone Table at line
+asked_by total p letters word.Claim at line = poly_at p letters at line >>= λ f. Ok (Claim f)
+asked_by total p letters word.Await at line = degree_at total at line >>= λ n. Ok (Await n)
+asked_by total p letters word.Quit at line = alone Quit at line
+
+-- a word of the form
+abbrev pub known : Form → Option Word → Result Word CommandError
+known form None = Err errors.Unknown
+known form (Some w) = if belongs form w then Ok w else Err errors.Unknown
+
+-- a word that may stand before `build`, or behind it
+abbrev pub timely : Bool → Word → Result Word CommandError
+timely built w = if built && is_early w then Err errors.AlreadyBuilt else if not built && is_late w then Err errors.NotYetBuilt else Ok w
+
+-- the command word that a text is, if it is one of the form and may stand here
+unfoldable pub word_of : Form → Bool → List ℕ → Result Word CommandError
+word_of form built text = known form (word_named text) >>= timely built
+
+-- how many bytes stand before the first blank
+abbrev pub word_length : List ℕ → ℕ
+word_length text = unwrap_or (position is_blank text) (length text)
+
+-- what a line asks for whose first word begins at the byte `start`, or its first fault
+unfoldable pub asked_from : Form → Bool → ℕ → ℕ → List ℕ → ℕ → List ℕ → Result Asked CommandError
+asked_from form built total p letters start line =
+    let n = word_length (drop start line) in
+    word_of form built (take n (drop start line)) >>= λ w. asked_by total p letters w (start + n) line
+
+-- a line of blanks, or one whose first byte that is no blank is `#`, asks for nothing
+abbrev pub asked_at : Form → Bool → ℕ → ℕ → List ℕ → Option ℕ → List ℕ → Result Asked CommandError
+asked_at form built total p letters None line = Ok Blank
+asked_at form built total p letters (Some start) line = if slice_index line start == 35 then Ok Blank else asked_from form built total p letters start line
+
+-- what a line asks for, or its first fault: in this form, before or behind `build`, up to this total degree, over a field of p elements and with these letters of the generators
+unfoldable pub asked : Form → Bool → ℕ → ℕ → List ℕ → List ℕ → Result Asked CommandError
+asked form built total p letters line = asked_at form built total p letters (dense line) line
+
+-- ---- what was returned
+
+abbrev pub of_lex : LexError → CommandError
+of_lex lex.NoMemory = errors.NoMemory
+of_lex (lex.BadByte place) = errors.Lex (lex.BadByte place)
+of_lex (lex.NumberTooLong place) = errors.Lex (lex.NumberTooLong place)
+
+abbrev pub of_syntax : SyntaxError → CommandError
+of_syntax syntax.NoMemory = errors.NoMemory
+of_syntax (syntax.Expected place) = errors.Syntax (syntax.Expected place)
+of_syntax (syntax.UnknownLetter place) = errors.Syntax (syntax.UnknownLetter place)
+of_syntax (syntax.TooDeep place) = errors.Syntax (syntax.TooDeep place)
+of_syntax (syntax.TooManyTerms place) = errors.Syntax (syntax.TooManyTerms place)
+of_syntax (syntax.TooHigh place) = errors.Syntax (syntax.TooHigh place)
+
+-- what a command asks for
+abbrev pub view : Command → Asked
+view commands.Blank = Blank
+view (commands.Field n) = Field n
+view (commands.Generators ts end) = Generators ts.items end
+view (commands.Identity f) = Identity f
+view commands.Build = Build
+view (commands.Polynomial f) = Polynomial f
+view (commands.Prove f) = Prove f
+view commands.Dimensions = Dimensions
+view commands.Table = Table
+view (commands.Claim f) = Claim f
+view (commands.Await n) = Await n
+view commands.Quit = Quit
+
+-- the fault is that of the definition, and never want of memory inside another one, unless memory ran out
+abbrev pub Fails : {Y : Type 0} → CommandError → Result Y CommandError → Type 0
+Fails errors.NoMemory read = Unit {0}
+Fails (errors.Lex lex.NoMemory) read = ⊥
+Fails (errors.Syntax syntax.NoMemory) read = ⊥
+Fails errors.Unknown read = read ≡ Err errors.Unknown
+Fails errors.NotYetBuilt read = read ≡ Err errors.NotYetBuilt
+Fails errors.AlreadyBuilt read = read ≡ Err errors.AlreadyBuilt
+Fails (errors.BadArgument place) read = read ≡ Err (errors.BadArgument place)
+Fails (errors.Lex e) read = read ≡ Err (errors.Lex e)
+Fails (errors.Syntax e) read = read ≡ Err (errors.Syntax e)
+
+-- no want of memory stands inside another error
+abbrev pub IsPlain : CommandError → Type 0
+IsPlain (errors.Lex lex.NoMemory) = ⊥
+IsPlain (errors.Syntax syntax.NoMemory) = ⊥
+IsPlain other = Unit {0}
+
+-- what was returned, seen by `f`, is what the definition gives, unless memory ran out
+abbrev pub Gives : {X Y : Type 0} → (X → Y) → Result X CommandError → Result Y CommandError → Type 0
+Gives f (Ok x) read = read ≡ Ok (f x)
+Gives f (Err e) read = Fails e read
+
+-- a polynomial over p elements and n generators, within the limits
+pub record IsRead (p n : ℕ) (f : Poly) : Type 0 where
+  pub residues : AreResidues p f
+  pub few : length f ≤ 65536
+  pub known : All (λ t. IsTrue (are_below n t.1)) f
+
+-- the polynomial of a command is over the field, and over the letters that its word asks for
+abbrev pub HasRead : ℕ → ℕ → Command → Type 0
+HasRead p n (commands.Identity f) = IsRead p 26 f
+HasRead p n (commands.Polynomial f) = IsRead p n f
+HasRead p n (commands.Prove f) = IsRead p n f
+HasRead p n (commands.Claim f) = IsRead p n f
+HasRead p n other = Unit {0}

@@ -1,0 +1,113 @@
+-- The lines that refuse a line.
+use Rattle.std.specs.Prelude.{ℕ, Bool, true, false, List, [], ◌++◌, codes, decimal, IsTrue}
+use Rattle.alb_lex.specs.declared.error.LexError.{LexError}
+use Rattle.alb_lex.specs.declared.error.LexError.TheVariants as lex
+use Rattle.alb_mono.specs.Letters.{alphabet}
+use Rattle.alb_mono.specs.Mono.{tree}
+use Rattle.alb_mono.specs.Tree.{are_below}
+use Rattle.alb_print.specs.Text.{mono_text}
+use Rattle.alb_syntax.specs.declared.error.SyntaxError.{SyntaxError}
+use Rattle.alb_syntax.specs.declared.error.SyntaxError.TheVariants as syntax
+use Rattle.alb_linear.specs.declared.error.IdentityError.{IdentityError}
+use Rattle.alb_linear.specs.declared.error.IdentityError.TheVariants as identity
+use Rattle.alb_problem.specs.declared.error.ProblemError.{ProblemError}
+use Rattle.alb_problem.specs.declared.error.ProblemError.TheVariants as problem
+use Rattle.alb_script.specs.declared.error.CommandError.{CommandError}
+use Rattle.alb_script.specs.declared.error.CommandError.TheVariants as command
+use Rattle.alb_script.specs.declared.refusal.Refusal.{Refusal}
+use Rattle.alb_script.specs.declared.refusal.Refusal.TheVariants as refusal
+
+-- a line of two parts
+abbrev pub line_of : List ℕ → List ℕ → List ℕ
+line_of front text = front ++ (text ++ codes "\n")
+
+abbrev pub lex_text : LexError → List ℕ
+lex_text (lex.BadByte place) = line_of (codes "refused 10 at ") (decimal place)
+lex_text (lex.NumberTooLong place) = line_of (codes "refused 11 at ") (decimal place)
+lex_text lex.NoMemory = []
+
+abbrev pub syntax_text : SyntaxError → List ℕ
+syntax_text (syntax.Expected place) = line_of (codes "refused 20 at ") (decimal place)
+syntax_text (syntax.UnknownLetter place) = line_of (codes "refused 21 at ") (decimal place)
+syntax_text (syntax.TooDeep place) = line_of (codes "refused 22 at ") (decimal place)
+syntax_text (syntax.TooManyTerms place) = line_of (codes "refused 23 at ") (decimal place)
+syntax_text (syntax.TooHigh place) = line_of (codes "refused 24 at ") (decimal place)
+syntax_text syntax.NoMemory = []
+
+abbrev pub command_text : CommandError → List ℕ
+command_text command.Unknown = codes "refused 80\n"
+command_text command.NotYetBuilt = codes "refused 81\n"
+command_text command.AlreadyBuilt = codes "refused 82\n"
+command_text (command.BadArgument place) = line_of (codes "refused 83 at ") (decimal place)
+command_text (command.Lex e) = lex_text e
+command_text (command.Syntax e) = syntax_text e
+command_text command.NoMemory = []
+
+abbrev pub identity_text : IdentityError → List ℕ
+identity_text identity.Zero = codes "refused 30\n"
+identity_text (identity.NotHomogeneous term) = line_of (codes "refused 31: ") (mono_text alphabet false (tree term))
+identity_text identity.DegreeOne = codes "refused 32\n"
+identity_text identity.DegreeOver8 = codes "refused 33\n"
+identity_text (identity.TooManyLinear count) = line_of (codes "refused 34: ") (decimal count)
+identity_text identity.NoMemory = []
+
+abbrev pub problem_text : ProblemError → List ℕ
+problem_text problem.NotInTable = codes "refused 1\n"
+problem_text problem.FieldAfterIdentity = codes "refused 40\n"
+problem_text (problem.BadGenerators place) = line_of (codes "refused 41 at ") (decimal place)
+problem_text problem.TooManyIdentities = codes "refused 42\n"
+problem_text (problem.Identity e) = identity_text e
+problem_text problem.NoGenerators = codes "refused 43\n"
+problem_text problem.FieldTooSmall = codes "refused 44\n"
+problem_text problem.GeneratorsTwice = codes "refused 45\n"
+problem_text problem.NoMemory = []
+
+-- the line of a refusal; want of memory has none
+abbrev pub refusal_text : Refusal → List ℕ
+refusal_text refusal.TooLong = codes "refused 84\n"
+refusal_text (refusal.Command e) = command_text e
+refusal_text (refusal.Problem e) = problem_text e
+
+-- ---- want of memory, by itself or inside another error
+
+abbrev pub is_lex_memory : LexError → Bool
+is_lex_memory lex.NoMemory = true
+is_lex_memory other = false
+
+abbrev pub is_syntax_memory : SyntaxError → Bool
+is_syntax_memory syntax.NoMemory = true
+is_syntax_memory other = false
+
+abbrev pub is_command_memory : CommandError → Bool
+is_command_memory (command.Lex e) = is_lex_memory e
+is_command_memory (command.Syntax e) = is_syntax_memory e
+is_command_memory command.NoMemory = true
+is_command_memory other = false
+
+abbrev pub is_identity_memory : IdentityError → Bool
+is_identity_memory identity.NoMemory = true
+is_identity_memory other = false
+
+abbrev pub is_problem_memory : ProblemError → Bool
+is_problem_memory (problem.Identity e) = is_identity_memory e
+is_problem_memory problem.NoMemory = true
+is_problem_memory other = false
+
+abbrev pub is_memory : Refusal → Bool
+is_memory refusal.TooLong = false
+is_memory (refusal.Command e) = is_command_memory e
+is_memory (refusal.Problem e) = is_problem_memory e
+
+-- ---- the term that a refusal names is over the letters a to z
+
+abbrev pub IsIdentityOverAlphabet : IdentityError → Type 0
+IsIdentityOverAlphabet (identity.NotHomogeneous term) = IsTrue (are_below 26 (tree term))
+IsIdentityOverAlphabet other = Unit {0}
+
+abbrev pub IsProblemOverAlphabet : ProblemError → Type 0
+IsProblemOverAlphabet (problem.Identity e) = IsIdentityOverAlphabet e
+IsProblemOverAlphabet other = Unit {0}
+
+abbrev pub IsOverAlphabet : Refusal → Type 0
+IsOverAlphabet (refusal.Problem e) = IsProblemOverAlphabet e
+IsOverAlphabet other = Unit {0}
