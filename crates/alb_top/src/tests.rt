@@ -132,7 +132,7 @@ fn rows(rt: HostRuntime) -> Result<(), Fail> {
             b"generators 1a\nidentity 2\n",
             b"",
             b"",
-            b"ok\nrefused 22 at 10\n",
+            b"ok\nrefused 20 at 11\n",
             Status::Refused,
         ),
         (
