@@ -7,6 +7,7 @@ use Rattle.alb_mono.specs.TreeCode.{tree_code}
 use Rattle.alb_poly.specs.Poly.{Poly, AreResidues}
 use Rattle.alb_poly.specs.Normal.{normal}
 use Rattle.alb_poly.specs.Instance.{Form, linearization}
+use Rattle.alb_poly.specs.Identity.{Identity, IsHomogeneous}
 use Rattle.alb_linear.specs.Identity.{identity_fault, leading_type, linear_count, IsLinearized}
 use Rattle.alb_problem.specs.Generators.{AreGenerators}
 
@@ -29,10 +30,15 @@ builder_code =
 abbrev pub linear_form : ℕ → Poly → Form
 linear_form p f = record { degree = sum (leading_type f); terms = normal p (linearization (leading_type f) f).terms }
 
+-- a polynomial as an identity: its variables are the 26 letters, with their degrees in the leading term
+abbrev pub with_degrees : Poly → Identity
+with_degrees f = record { degrees = leading_type f; terms = f }
+
 -- An identity that a builder keeps: a homogeneous polynomial of degree 2 to 8 over the field, whose linearization has at most
 -- 100,000 terms.
 pub record IsKept (p : ℕ) (f : Poly) : Type 0 where
   pub no_fault : identity_fault f ≡ None
+  pub homogeneous : IsHomogeneous (leading_type f) f
   pub residues : AreResidues p f
   pub small : linear_count f ≤ 100000
   pub linearized : IsLinearized p (linear_form p f)

@@ -1,15 +1,20 @@
 -- Accepted problems.
-use Rattle.std.specs.Prelude.{◌≡◌, ◌<◌, ◌≤◌, length, sum, map, All}
+use Rattle.std.specs.Prelude.{◌≡◌, ◌<◌, ◌≤◌, List, length, sum, map, All}
 use Rattle.gf_field.specs.Primes.{IsInTable}
 use Rattle.alb_mono.specs.Listing.{Each}
+use Rattle.alb_poly.specs.Identity.{Identity}
 use Rattle.alb_poly.specs.Rules.{forms}
 use Rattle.alb_linear.specs.Identity.{IsIdentity, IsLinearized}
-use Rattle.alb_problem.specs.Builder.{Builder, linear_form, IsKept}
+use Rattle.alb_problem.specs.Builder.{Builder, linear_form, with_degrees, IsKept}
 use Rattle.alb_problem.specs.declared.problem.Problem.{Problem}
 
 -- what a problem says, as a builder
 abbrev pub problem : Problem → Builder
 problem q = record { field = q.rules.field; letters = q.letters; counts = q.rules.target; identities = map (λ f. f.poly) q.identities.items }
+
+-- the identities of a problem, with the degrees of their variables
+abbrev pub identities_of : Problem → List Identity
+identities_of q = map (λ f. with_degrees f.poly) q.identities.items
 
 -- A problem that the engine accepts. The field is one of the table and has more elements than the total degree, which is 1 to
 -- 12; no count is 0, and each has its letter; there are at most 32 identities, and the rules stand for them: their forms are the

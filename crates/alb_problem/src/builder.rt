@@ -1,11 +1,13 @@
 ghost use Rattle.std.specs.Prelude.{◌≡◌, ◌+◌, ◌≤◌, ◌++◌, [], ◌∷◌, None, IfOk, IfErr, OnOk, OnErr, MatchResult, length};
 ghost use Rattle.alb_poly.specs.Poly.{AreResidues};
 ghost use Rattle.alb_problem.specs.Generators.{letters, counts};
-ghost use Rattle.alb_poly.specs.Rules.{form};
+ghost use Rattle.alb_poly.specs.Rules.{form, forms};
+ghost use Rattle.alb_poly.specs.Identity.{AreHomogeneous, AreSameForms, linearizations};
 ghost use Rattle.alb_linear.specs.Identity.{identity_fault, linear_count, IsIdentity};
 ghost use Rattle.alb_problem.specs.Builder.{IsKept, linear_form};
 ghost use Rattle.alb_problem.specs.Refusals.{field_refusal, generators_refusal, identity_refusal, finish_refusal, fault_refusal, of_identity, Answers, AnswersOrNoMemory, Tells};
-ghost use Rattle.alb_problem.specs.Problem.{problem, IsAccepted};
+ghost use Rattle.alb_problem.specs.Problem.{problem, identities_of, IsAccepted};
+ghost use Rattle.alb_problem.specs.Matches.{MatchesTextbook};
 
 use crate::generators::generators;
 use crate::{Problem, ProblemError};
@@ -164,7 +166,9 @@ impl ProblemBuilder {
         Ok(self.identities.len() as u32)
     }
 
-    /// The problem, which takes what the builder holds.
+    /// The problem, which takes what the builder holds. Its rules stand for its identities: for polynomials within the
+    /// target, what follows from the rules, by instances at monomials, is exactly what follows from the identities in the
+    /// textbook's sense, by values at any polynomials.
     ///
     /// # Errors
     /// `NoGenerators` where none are named; else `FieldTooSmall` where the number of elements of the field is not above
@@ -173,6 +177,9 @@ impl ProblemBuilder {
         ensures exact { MatchResult result (λ _. finish_refusal self ≡ None) (λ e. Tells e.error (finish_refusal self)) }
         ensures whole { IfOk result (λ q. problem q ≡ self) }
         ensures accepted { IfOk result (λ q. IsAccepted q) }
+        ensures homogeneous { IfOk result (λ q. AreHomogeneous (identities_of q)) }
+        ensures stands { IfOk result (λ q. AreSameForms q.rules.field (forms q.rules) (linearizations (identities_of q))) }
+        ensures textbook { IfOk result (λ q. MatchesTextbook q.rules.field q.rules.target (forms q.rules) (identities_of q)) }
         ensures unchanged { IfErr result (λ e. e.builder ≡ self) }
     {
         if self.letters.len() == 0 {
@@ -224,6 +231,8 @@ fn read_identity(
         Ok(identity) => identity,
         Err(error) => return Err(identity_error(error)),
     };
+    // Its letters are a to z: what is kept is homogeneous in these.
+    let _known = identity.poly.terms();
     match linearize(alloc, field, &identity) {
         Ok(linear) => Ok((identity, linear)),
         Err(error) => Err(identity_error(error)),

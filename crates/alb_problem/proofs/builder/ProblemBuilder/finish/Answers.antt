@@ -1,8 +1,11 @@
 use Rattle.std.proofs.Common.{◌≤◌, length, map, sum, arith}
 use Rattle.std.proofs.lemmas.List.{length-map}
+use Rattle.gf_field.proofs.Table.{IsPrime-from_table}
 use Rattle.alb_poly.specs.Rules.{form}
 use Rattle.alb_problem.proofs.GeneratorLemmas.{length-counts}
-use Rattle.alb_problem.proofs.BuilderLemmas.{kept-identities, forms-linearized}
+use Rattle.alb_problem.proofs.BuilderLemmas.{kept-identities, forms-linearized, homogeneous-kept, same-linearizations}
+use Rattle.alb_problem.specs.Builder.{with_degrees}
+use Rattle.alb_problem.proofs.TextbookLemmas.{MatchesTextbook-linearizations}
 use Rattle.alb_problem.proofs.builder.ProblemBuilder.finish.Goals as goal
 
 pub returns-clause-accepted : goal.returns-clause-accepted
@@ -24,3 +27,20 @@ returns-clause-accepted c =
       stand = c.self.invariant.2;
       linearized = forms-linearized b.field b.identities.items (map form b.linears.items) sound.kept c.self.invariant.2;
     }
+
+pub returns-clause-homogeneous : goal.returns-clause-homogeneous
+returns-clause-homogeneous c = homogeneous-kept c.self.inside.field c.self.inside.identities.items c.self.invariant.0.kept
+
+pub returns-clause-stands : goal.returns-clause-stands
+returns-clause-stands c =
+    let b = c.self.inside in
+    same-linearizations b.field b.identities.items (map form b.linears.items) c.self.invariant.2
+
+pub returns-clause-textbook : goal.returns-clause-textbook
+returns-clause-textbook c =
+    let b = c.self.inside in
+    MatchesTextbook-linearizations b.field b.target (map form b.linears.items) (map (λ f. with_degrees f.poly) b.identities.items)
+    (IsPrime-from_table b.field c.p.ensures.listed)
+    (omega (arith, c.p.ensures.value, c.degree.ensures, c.from.ensures, c.if-p-from.false))
+    (homogeneous-kept b.field b.identities.items c.self.invariant.0.kept)
+    (same-linearizations b.field b.identities.items (map form b.linears.items) c.self.invariant.2)
