@@ -5,6 +5,8 @@ mod check;
 mod error;
 pub mod laws;
 mod line;
+#[cfg(test)]
+mod tests;
 mod types;
 mod values;
 
