@@ -1,0 +1,4 @@
+pub mod Row
+pub mod Merge
+pub mod Span
+pub mod Laws
