@@ -1,0 +1,4 @@
+pub mod DiagonalLemmas
+pub mod EchelonLemmas
+pub mod RecipeLemmas
+pub mod StateLemmas

@@ -1,0 +1,3 @@
+pub mod Reduction
+pub mod Echelon
+pub mod Laws

@@ -1,0 +1,19 @@
+//! The reduced form of a list of rows, with recipes.
+//!
+//! Rows are offered one by one to an `Echelon`, which keeps them fully reduced. `Reduced` has the pivots and the rows of
+//! the reduced form, and on demand for each row its recipe: how it is a combination of the offered rows. Column 0 is the
+//! greatest, so the lead of a row is its least column.
+#![tactic(auto)]
+
+mod echelon;
+mod kept;
+pub mod laws;
+mod order;
+mod recipes;
+mod reduced;
+mod steps;
+#[cfg(test)]
+mod tests;
+
+pub use echelon::{Echelon, Offered};
+pub use reduced::Reduced;

@@ -1,0 +1,133 @@
+//! Steps on the kept rows, each with its recipe.
+ghost use Rattle.std.specs.Prelude.{◌≡◌, ℕ, ◌<◌, ◌++◌, [], ◌∷◌, length, OnOk};
+ghost use Rattle.std.specs.List.{All};
+ghost use Rattle.alb_rows.specs.Row.{Cells, entry, IsRowOver, LeadsWith};
+ghost use Rattle.alb_reduce.specs.Echelon.{Agrees, AllAgree, AreClearedAt, IsCleared, IsClearedAt, IsEchelon, NewPivot, RecipesFollow};
+
+use crate::kept::Kept;
+use alb_mono::NoMemory;
+use alb_rows::Row;
+use gf_field::{Field, Residue};
+
+// Adds a multiple of `by`, which is 1 at the column, so that the row is 0 there.
+fn take_off(
+    field: &Field,
+    column: u32,
+    by: &Row,
+    by_recipe: &Row,
+    row: &mut Row,
+    recipe: &mut Row,
+) -> Result<(), NoMemory>
+    requires by_in { IsRowOver field.now by.now }
+    requires by_recipe_in { IsRowOver field.now by_recipe.now }
+    requires row_in { IsRowOver field.now row.old }
+    requires recipe_in { IsRowOver field.now recipe.old }
+    ensures residues { OnOk result (IsRowOver field.now row.new) }
+    ensures recipe_residues { OnOk result (IsRowOver field.now recipe.new) }
+    ensures cleared { OnOk result (IsClearedAt field.now column (entry by.now) (entry row.old) (entry row.new)) }
+    ensures agrees { OnOk result ((w u : ℕ → ℕ) → Agrees field.now w u by_recipe.now by.now → Agrees field.now w u recipe.old row.old
+        → Agrees field.now w u recipe.new row.new) }
+{
+    let x = row.entry(column);
+    if x != 0 {
+        let factor = field.neg(x);
+        row.add_scaled(field, factor, by)?;
+        recipe.add_scaled(field, factor, by_recipe)?;
+    }
+    Ok(())
+}
+
+// Takes off the kept rows, so that the row is 0 at their pivots.
+pub(crate) fn clear(
+    field: &Field,
+    kept: &Kept,
+    row: &mut Row,
+    recipe: &mut Row,
+) -> Result<(), NoMemory>
+    requires kept { IsEchelon field.now kept.now.pivots.items kept.now.rows.items }
+    requires recipes_in { All (IsRowOver field.now) kept.now.recipes.items }
+    requires long { length kept.now.recipes.items ≡ length kept.now.rows.items }
+    requires row_in { IsRowOver field.now row.old }
+    requires recipe_in { IsRowOver field.now recipe.old }
+    ensures cleared { OnOk result (IsCleared field.now kept.now.pivots.items kept.now.rows.items (length kept.now.pivots.items) row.old row.new) }
+    ensures recipe_residues { OnOk result (IsRowOver field.now recipe.new) }
+    ensures agrees { OnOk result ((w u : ℕ → ℕ) → AllAgree field.now w u kept.now.recipes.items kept.now.rows.items → Agrees field.now w u recipe.old row.old
+        → Agrees field.now w u recipe.new row.new) }
+{
+    for k in 0..kept.pivots.len() {
+        take_off(
+            field,
+            kept.pivots[k],
+            &kept.rows[k],
+            &kept.recipes[k],
+            row,
+            recipe,
+        )?;
+    }
+    Ok(())
+}
+
+// Takes the column off each row, by the row that is 1 there.
+fn clear_column(
+    field: &Field,
+    column: u32,
+    by: &Row,
+    by_recipe: &Row,
+    rows: &mut Vec<Row>,
+    recipes: &mut Vec<Row>,
+) -> Result<(), NoMemory>
+    requires by_in { IsRowOver field.now by.now }
+    requires by_recipe_in { IsRowOver field.now by_recipe.now }
+    requires rows_in { All (IsRowOver field.now) rows.old.items }
+    requires recipes_in { All (IsRowOver field.now) recipes.old.items }
+    requires long { length recipes.old.items ≡ length rows.old.items }
+    ensures rows { OnOk result (AreClearedAt field.now column by.now rows.old.items rows.new.items (length rows.old.items)) }
+    ensures recipes { OnOk result (RecipesFollow field.now by_recipe.now by.now recipes.old.items rows.old.items recipes.new.items rows.new.items) }
+{
+    for k in 0..rows.len() {
+        take_off(field, column, by, by_recipe, &mut rows[k], &mut recipes[k])?;
+    }
+    Ok(())
+}
+
+// Keeps a cleared row, whose lead becomes a pivot.
+pub(crate) fn add_pivot(
+    field: &Field,
+    lead: (u32, Residue),
+    row: Row,
+    recipe: Row,
+    kept: &mut Kept,
+) -> Result<(), NoMemory>
+    requires kept { IsEchelon field.now kept.old.pivots.items kept.old.rows.items }
+    requires recipes_in { All (IsRowOver field.now) kept.old.recipes.items }
+    requires long { length kept.old.recipes.items ≡ length kept.old.rows.items }
+    requires lead_is { LeadsWith row lead }
+    requires lead_in { lead.1 < field.now }
+    requires row_in { IsRowOver field.now row }
+    requires recipe_in { IsRowOver field.now recipe }
+    ensures pivots { OnOk result (kept.new.pivots.items ≡ kept.old.pivots.items ++ lead.0 ∷ []) }
+    ensures rows { OnOk result ((old : Cells) → IsCleared field.now kept.old.pivots.items kept.old.rows.items (length kept.old.pivots.items) old row
+        → NewPivot field.now kept.old.pivots.items kept.old.rows.items old lead.0 kept.new.rows.items) }
+    ensures recipes_long { OnOk result (length kept.new.recipes.items ≡ length kept.new.rows.items) }
+    ensures recipes_residues { OnOk result (All (IsRowOver field.now) kept.new.recipes.items) }
+    ensures agree { OnOk result ((w u : ℕ → ℕ) → AllAgree field.now w u kept.old.recipes.items kept.old.rows.items → Agrees field.now w u recipe row
+        → AllAgree field.now w u kept.new.recipes.items kept.new.rows.items) }
+{
+    let (column, x) = lead;
+    let factor = field.inv(x);
+    let (mut row, mut recipe) = (row, recipe);
+    row.scale(field, factor);
+    recipe.scale(field, factor);
+    clear_column(
+        field,
+        column,
+        &row,
+        &recipe,
+        &mut kept.rows,
+        &mut kept.recipes,
+    )?;
+    kept.rows.push(row)?;
+    kept.recipes.push(recipe)?;
+    kept.pivots.push(column)?;
+    Ok(())
+}
