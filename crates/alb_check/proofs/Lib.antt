@@ -1,0 +1,10 @@
+pub mod ShapeLemmas
+pub mod VectorLemmas
+pub mod ProductLemmas
+pub mod RunLemmas
+pub mod TableLemmas
+pub mod RefuteLemmas
+pub mod ValueLemmas
+pub mod WalkLemmas
+pub mod CheckLemmas
+pub mod VerdictLemmas

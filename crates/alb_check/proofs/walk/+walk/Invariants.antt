@@ -1,0 +1,14 @@
+use Rattle.std.proofs.Common.{◌≡◌, ◌-◌, ◌<◌, ◌++◌, ◌∷◌, [], ℕ, length, get_or}
+use Rattle.alb_poly.specs.Rules.{form}
+use Rattle.alb_check.specs.Raw.{raw}
+use Rattle.alb_check.specs.Walk.{IsZeroFrom}
+use Rattle.alb_check.proofs.walk.+walk.Given as goal
+
+abbrev pub decreases-walk : goal.decreases-walk
+decreases-walk l = l.linear.now.degree - length l.tuple.now.items
+
+abbrev pub invariant-loop-k : goal.invariant-loop-k
+invariant-loop-k l = record {
+  same : l.tuple.items ≡ l.fn.tuple.items;
+  zero : (i : ℕ) → i < l.k-index → IsZeroFrom l.rules.field (raw l.table) (form l.linear) (l.fn.tuple.items ++ get_or l.k-items i 0 ∷ []);
+}

@@ -1,0 +1,9 @@
+pub mod Raw
+pub mod Shape
+pub mod TableAlgebra
+pub mod First
+pub mod Walk
+pub mod Products
+pub mod Answers
+pub mod Verdict
+pub mod Laws

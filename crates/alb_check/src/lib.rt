@@ -1,0 +1,17 @@
+//! Tables as evidence: finite algebras that satisfy identities and where a polynomial has a value that is not zero.
+#![tactic(auto)]
+
+mod check;
+mod error;
+pub mod laws;
+mod product;
+mod raw;
+mod shape;
+#[cfg(test)]
+mod tests;
+mod value;
+mod walk;
+
+pub use check::{Counter, check_table};
+pub use error::TableError;
+pub use raw::{RawEntry, RawTable};
