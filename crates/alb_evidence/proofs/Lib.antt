@@ -1,0 +1,11 @@
+pub mod WordLemmas
+pub mod ReadLemmas
+pub mod TableLemmas
+pub mod BlockLemmas
+pub mod ReadingLemmas
+pub mod WriteLemmas
+pub mod Written
+pub mod WrittenLines
+pub mod WrittenBlock
+pub mod WrittenTypes
+pub mod WrittenTable

@@ -1,0 +1,18 @@
+use Rattle.std.proofs.Common.{codes, ◌++◌}
+use Rattle.std.proofs.lemmas.Result.{err_from_is_err_and}
+use Rattle.alb_io.proofs.Fronts.{AppendsFront-more, AppendsFront-then, Puts-then}
+use Rattle.alb_evidence.specs.Texts.{named, signed_text}
+use Rattle.alb_evidence.proofs.derivation.write_item.Goals as goal
+
+pub returns-in_err-put_all-clause-puts : goal.returns-in_err-put_all-clause-puts
+returns-in_err-put_all-clause-puts g c =
+    let p = err_from_is_err_and c.from_residual.result c.from_residual.ensures.1 in
+    rw p.1 (AppendsFront-more _ _ (codes " ") (signed_text c.args.field.now c.args.c ++ (named (codes "*") c.args.earlier)) c.in_err-put_all.ensures.puts)
+
+pub returns-in_err-write_signed-clause-puts : goal.returns-in_err-write_signed-clause-puts
+returns-in_err-write_signed-clause-puts g c =
+    let p = err_from_is_err_and c.from_residual-in_err-write_signed.result c.from_residual-in_err-write_signed.ensures.1 in
+    rw p.1 (AppendsFront-then _ _ _ (codes " ") _ c.in_ok-put_all.ensures.puts (AppendsFront-more _ _ (signed_text c.args.field.now c.args.c) (named (codes "*") c.args.earlier) c.in_err-write_signed.ensures.puts))
+
+pub returns-clause-puts : goal.returns-clause-puts
+returns-clause-puts g c = Puts-then c.write_named.result _ _ _ (codes " ") _ c.in_ok-put_all.ensures.puts (Puts-then c.write_named.result _ _ _ (signed_text c.args.field.now c.args.c) (named (codes "*") c.args.earlier) c.in_ok-write_signed.ensures.puts (c.write_named.ensures.puts))

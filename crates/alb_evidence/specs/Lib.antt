@@ -1,0 +1,9 @@
+pub mod Words
+pub mod Block
+pub mod Gives
+pub mod Said
+pub mod Views
+pub mod Reads
+pub mod Inside
+pub mod Texts
+pub mod Laws
