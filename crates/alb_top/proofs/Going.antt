@@ -1,25 +1,23 @@
 -- How a run goes on, and how it ends.
-use Rattle.std.proofs.Common.{◌≡◌, ◌≢◌, ℕ, ◌+◌, ◌<◌, ◌^◌, Bool, true, false, List, [], ◌∷◌, ◌++◌, length, Option, refl, sym, ap, ◌∙◌, subst, inl, inr, append_assoc, arith}
+use Rattle.std.proofs.Common.{◌≡◌, ℕ, ◌+◌, ◌^◌, Bool, true, false, List, [], ◌∷◌, ◌++◌, length, Option, refl, sym, ap, ◌∙◌, subst, inl, inr, append_assoc, arith}
 use Rattle.std.specs.Io.KnownBytes.{Appends}
 use Rattle.std.proofs.KnownBytes.{Consumes-nil, Appends-nil, Appends-trans}
 use Rattle.std.proofs.lemmas.List.{append-nil, length-append}
 use Rattle.alb_io.specs.Lines.{lines_of}
 use Rattle.alb_io.specs.Puts.{AppendsFront}
-use Rattle.alb_io.specs.Reader.{Reader, Reads}
-use Rattle.alb_io.specs.Reading.{IsAll}
+use Rattle.alb_io.specs.Reader.{Reader}
+use Rattle.alb_io.specs.Reading.{Reading, IsAll}
+use Rattle.alb_io.specs.declared.status.Status.TheVariants as status
 use Rattle.alb_io.specs.declared.step.LineStep.TheVariants as step
 use Rattle.alb_io.proofs.Readings.{Reading-start, Reading-first, Reading-end, Reading-cut, Reading-lines}
+use Rattle.alb_evidence.specs.Reads.{ReadsLines}
 use Rattle.alb_top.specs.Runs.{Run}
-use Rattle.alb_top.proofs.Justified.{justified}
-use Rattle.alb_top.specs.Script.{State, Justified, start, Step, Finish, answer_to, answer_to_end, text_of}
-use Rattle.alb_top.specs.Outcome.{IsTranscript, IsFront, IsRead, Writes, status_of}
-use Rattle.alb_top.specs.Going.{Going, ReadsLine, Outcome}
-use Rattle.alb_top.specs.declared.reply.Place.TheVariants as place
-use Rattle.alb_top.specs.declared.reply.Reply.{Reply}
-use Rattle.alb_io.specs.declared.status.Status.TheVariants as status
-use Rattle.alb_top.proofs.SoundLemmas.{sound-start}
+use Rattle.alb_top.specs.Script.{State, Reply, start, Step, EndsBlock, AnswersEnd, text_of}
 use Rattle.alb_top.specs.Sound.{IsSound}
-use Rattle.alb_top.proofs.RunLemmas.{Run-sound, Run-join, Run-one, Run-some, Run-closed, Finish-closed}
+use Rattle.alb_top.specs.Outcome.{IsTranscript, IsFront, IsRead, Writes, status_of}
+use Rattle.alb_top.specs.Going.{Going, AnswersLines, EndsLines, Stops, Gets, Outcome}
+use Rattle.alb_top.proofs.SoundLemmas.{sound-start, finish-some}
+use Rattle.alb_top.proofs.RunLemmas.{Run-sound, Run-join, Run-some, Run-closed, Finish-closed}
 
 pub Going-start : (reader : Reader) (first before : Option (List ℕ)) → reader.held ≡ [] → reader.at_end ≡ false → reader.room ≡ 2 ^ 40 → Going reader start first first before before
 Going-start reader first before none running room = record {
@@ -32,51 +30,89 @@ Going-start reader first before none running room = record {
   room = omega (arith, room);
 }
 
-Step-answer : (script next : State) (line : List ℕ) (reply : Reply) → IsSound script → (reply, next) ≡ answer_to script line → Step script line (text_of reply) next
-Step-answer script next line reply sound is =
-    let new : next ≡ (answer_to script line).1 = ap (λ r. r.1) is in
-    (ap (λ r. text_of r.0) is, new, subst (λ n. Justified (answer_to script line).0 n) (sym new) (justified script line sound))
+pub Going-sound : (reader : Reader) (script : State) (first now before after : Option (List ℕ)) → Going reader script first now before after → IsSound script
+Going-sound reader script first now before after p = Run-sound start script p.lines p.text sound-start p.run
 
--- a line was read and answered
-pub Going-line : (old new : Reader) (script next : State) (first now now' before after after' : Option (List ℕ)) (line : List ℕ) (reply : Reply)
-    → Going old script first now before after → ReadsLine old new now now' line → (reply, next) ≡ answer_to script line → Appends after after' (text_of reply)
-    → Going new next first now' before after'
-Going-line old new script next first now now' before after after' line reply p r is put = record {
-  taken = p.taken ++ r.reads.got;
-  lines = p.lines ++ line ∷ [];
-  text = p.text ++ text_of reply;
-  reading = Reading-first p.taken p.lines line old new first now now' r.answer p.reading r.reads r.is_first;
-  written = Appends-trans before after after' p.text (text_of reply) p.written put;
-  run = Run-join Step start script next p.lines (line ∷ []) p.text (text_of reply) p.run (Run-one Step script next line (text_of reply) (Step-answer script next line reply (Run-sound start script p.lines p.text sound-start p.run) is));
-  room = omega (arith, p.room, r.reads.room, length-append p.taken r.reads.got);
+-- ---- reading
+
+-- more lines were read
+record ReadsOn (taken : List ℕ) (lines more : List (List ℕ)) (old new : Reader) (first now : Option (List ℕ)) : Type 0 where
+  got : List ℕ
+  reading : Reading (taken ++ got) (lines ++ more) new first now
+  room : new.room + length got ≡ old.room
+
+reads-on : (taken : List ℕ) (lines more : List (List ℕ)) (old new : Reader) (first now now' : Option (List ℕ)) → Reading taken lines old first now → ReadsLines more old new now now'
+    → ReadsOn taken lines more old new first now'
+reads-on taken lines [] old new first now now' p r = record {
+  got = [];
+  reading = subst (λ t. Reading t (lines ++ []) new first now') (sym (append-nil taken)) (subst (λ l. Reading taken l new first now') (sym (append-nil lines))
+      (subst (λ (n : Reader). Reading taken lines n first now') (sym r.0) (subst (λ o. Reading taken lines old first o) (sym r.1) p)));
+  room = let same : new.room ≡ old.room = ap (λ (n : Reader). n.room) r.0 in omega (arith, same);
 }
+reads-on taken lines (line ∷ more) old new first now now' p r =
+    let one = Reading-first taken lines line old r.0 first now r.1 r.2.answer p r.2.reads r.2.is_first in
+    let rest = reads-on (taken ++ r.2.reads.got) (lines ++ line ∷ []) more r.0 new first r.1 now' one r.3 in
+    record {
+      got = r.2.reads.got ++ rest.got;
+      reading = subst (λ t. Reading t (lines ++ line ∷ more) new first now') (append_assoc taken r.2.reads.got rest.got)
+          (subst (λ l. Reading ((taken ++ r.2.reads.got) ++ rest.got) l new first now') (append_assoc lines (line ∷ []) more) rest.reading);
+      room = omega (arith, r.2.reads.room, rest.room, length-append r.2.reads.got rest.got);
+    }
 
-length_some : (line : List ℕ) → line ≢ [] → 0 < length line
-length_some [] some = absurd (some refl)
-length_some (b ∷ line) some = omega arith
+-- lines were read and answered
+pub Going-lines : (old new : Reader) (script next : State) (first now now' before after after' : Option (List ℕ)) (reply : Reply)
+    → Going old script first now before after → AnswersLines old new script next now now' reply → Appends after after' (text_of reply)
+    → Going new next first now' before after'
+Going-lines old new script next first now now' before after after' reply p a put =
+    let on = reads-on p.taken p.lines a.lines old new first now now' p.reading a.reads in
+    record {
+      taken = p.taken ++ on.got;
+      lines = p.lines ++ a.lines;
+      text = p.text ++ text_of reply;
+      reading = on.reading;
+      written = Appends-trans before after after' p.text (text_of reply) p.written put;
+      run = Run-join Step start script next p.lines a.lines p.text (text_of reply) p.run a.run;
+      room = omega (arith, p.room, on.room, length-append p.taken on.got);
+    }
 
--- the measure falls
-pub ReadsLine-smaller : (old new : Reader) (now now' : Option (List ℕ)) (line : List ℕ) → ReadsLine old new now now' line → new.room + length new.held < old.room + length old.held
-ReadsLine-smaller old new now now' line r =
-    let all = length-append old.held r.reads.got in
-    elim r.is_first.1 [
-      | inl feed ↦ omega (arith, all, ap length feed, length-append line (10 ∷ new.held), r.reads.room)
-      | inr rest ↦ omega (arith, all, ap length rest.0, ap length rest.2, length_some line rest.1, r.reads.room)
-    ]
+-- lines were read that ask for no answer
+going-quietly : (old new : Reader) (script next : State) (first now now' before after : Option (List ℕ)) (lines : List (List ℕ))
+    → Going old script first now before after → ReadsLines lines old new now now' → Run Step script lines [] next → Going new next first now' before after
+going-quietly old new script next first now now' before after lines p r run =
+    let on = reads-on p.taken p.lines lines old new first now now' p.reading r in
+    record {
+      taken = p.taken ++ on.got;
+      lines = p.lines ++ lines;
+      text = p.text ++ [];
+      reading = on.reading;
+      written = subst (λ t. Appends before after t) (sym (append-nil p.text)) p.written;
+      run = Run-join Step start script next p.lines lines p.text [] p.run run;
+      room = omega (arith, p.room, on.room, length-append p.taken on.got);
+    }
+
+-- ---- transcripts
 
 -- what was appended is a front of the transcript of the input
 front_of : (input : List ℕ) (lines more : List (List ℕ)) (text front rest : List ℕ) (script : State) → lines_of input ≡ lines ++ more → Run Step start lines text script → text ≡ front ++ rest → IsFront input front
 front_of input lines more text front rest script is run cut =
-    let others = Run-some script more (Run-sound start script lines text sound-start run) in
-    let answer = answer_to_end others.1 in
-    let whole : front ++ (rest ++ others.0 ++ text_of answer.0) ≡ (text ++ others.0) ++ text_of answer.0 =
-    sym (append_assoc front (rest ++ others.0) (text_of answer.0)) ∙ ap (λ l. l ++ text_of answer.0) (sym (append_assoc front rest others.0) ∙ ap (λ l. l ++ others.0) (sym cut)) in
+    let sound = Run-sound start script lines text sound-start run in
+    let others = Run-some script more sound in
+    let end = finish-some others.1 (Run-sound script others.1 more others.0 sound others.2) in
+    let whole : front ++ (rest ++ others.0 ++ end.0) ≡ (text ++ others.0) ++ end.0 =
+    sym (append_assoc front (rest ++ others.0) end.0) ∙ ap (λ l. l ++ end.0) (sym (append_assoc front rest others.0) ∙ ap (λ l. l ++ others.0) (sym cut)) in
     record {
-      rest = rest ++ others.0 ++ text_of answer.0;
-      clean = answer.1.clean;
+      rest = rest ++ others.0 ++ end.0;
+      clean = end.1.clean;
       transcript = record {
-        last = answer.1;
-        answers = (text ++ others.0, text_of answer.0, others.1, whole, subst (λ l. Run Step start l (text ++ others.0) others.1) (sym is) (Run-join Step start script others.1 lines more text others.0 run others.2), (refl, refl));
+        last = end.1;
+        answers = (
+          text ++ others.0,
+          end.0,
+          others.1,
+          whole,
+          subst (λ l. Run Step start l (text ++ others.0) others.1) (sym is) (Run-join Step start script others.1 lines more text others.0 run others.2),
+          end.2,
+        );
         judged = refl;
       };
     }
@@ -85,67 +121,78 @@ writes_status : (clean : Bool) (input taken text : List ℕ) → IsTranscript in
 writes_status true input taken text p q = (p, q)
 writes_status false input taken text p q = (p, q)
 
-Finish-answer : (script next : State) (reply : Reply) → (reply, next) ≡ answer_to_end script → Finish script (text_of reply) next
-Finish-answer script next reply is = (ap (λ r. text_of r.0) is, ap (λ r. r.1) is)
-
 ended_transcript : (input taken : List ℕ) (lines : List (List ℕ)) (text : List ℕ) (script next : State) (reply : Reply) → input ≡ taken → lines_of taken ≡ lines → Run Step start lines text script
-    → (reply, next) ≡ answer_to_end script → IsTranscript input (text ++ text_of reply) next.clean
-ended_transcript input taken lines text script next reply all is run answer = record {
+    → script.closed ≡ false → EndsBlock script.block script false reply next → IsTranscript input (text ++ text_of reply) next.clean
+ended_transcript input taken lines text script next reply all is run going ends = record {
   last = next;
-  answers = (text, text_of reply, script, refl, subst (λ l. Run Step start l text script) (sym (ap lines_of all ∙ is)) run, Finish-answer script next reply answer);
+  answers = (text, text_of reply, script, refl, subst (λ l. Run Step start l text script) (sym (ap lines_of all ∙ is)) run, record { reply = reply; answers = subst (λ c. AnswersEnd c script reply next) (sym going) ends; told = refl });
   judged = refl;
 }
 
 ended_writes : (input taken : List ℕ) (lines : List (List ℕ)) (text : List ℕ) (script next : State) (reply : Reply) → input ≡ taken → lines_of taken ≡ lines → Run Step start lines text script
-    → (reply, next) ≡ answer_to_end script → Writes (status_of next.clean) input taken (text ++ text_of reply)
-ended_writes input taken lines text script next reply all is run answer =
-    writes_status next.clean input taken _ (ended_transcript input taken lines text script next reply all is run answer) (inl all)
+    → script.closed ≡ false → EndsBlock script.block script false reply next → Writes (status_of next.clean) input taken (text ++ text_of reply)
+ended_writes input taken lines text script next reply all is run going ends =
+    writes_status next.clean input taken _ (ended_transcript input taken lines text script next reply all is run going ends) (inl all)
 
 front_of_end : (input taken : List ℕ) (lines : List (List ℕ)) (text front rest : List ℕ) (script next : State) (reply : Reply) → input ≡ taken → lines_of taken ≡ lines → Run Step start lines text script
-    → (reply, next) ≡ answer_to_end script → text_of reply ≡ front ++ rest → IsFront input (text ++ front)
-front_of_end input taken lines text front rest script next reply all is run answer cut = record {
+    → script.closed ≡ false → EndsBlock script.block script false reply next → text_of reply ≡ front ++ rest → IsFront input (text ++ front)
+front_of_end input taken lines text front rest script next reply all is run going ends cut = record {
   rest = rest;
   clean = next.clean;
-  transcript = subst (λ l. IsTranscript input l next.clean) (ap (λ l. text ++ l) cut ∙ sym (append_assoc text front rest)) (ended_transcript input taken lines text script next reply all is run answer);
+  transcript = subst (λ l. IsTranscript input l next.clean) (ap (λ l. text ++ l) cut ∙ sym (append_assoc text front rest)) (ended_transcript input taken lines text script next reply all is run going ends);
 }
 
-closed_writes : (input : List ℕ) (lines more : List (List ℕ)) (text : List ℕ) (script : State) → lines_of input ≡ lines ++ more → Run Step start lines text script → script.place ≡ place.Closed
+closed_writes : (input : List ℕ) (lines more : List (List ℕ)) (text : List ℕ) (script : State) → lines_of input ≡ lines ++ more → Run Step start lines text script → script.closed ≡ true
     → (taken : List ℕ) → Writes (status_of script.clean) input taken text
-closed_writes input lines more text script is run closed taken = writes_status script.clean input taken text (record {
-  last = script;
-  answers = (text ++ [], [], script, sym (append-nil (text ++ []) ∙ append-nil text), subst (λ l. Run Step start l (text ++ []) script) (sym is) (Run-join Step start script script lines more text [] run (Run-closed script more closed)), Finish-closed script closed);
-  judged = refl;
-}) (inr (record { lines = lines; more = more; last = script; cut = is; run = run; closed = closed }))
+closed_writes input lines more text script is run closed taken =
+    writes_status script.clean input taken text (record {
+      last = script;
+      answers = (
+        text ++ [],
+        [],
+        script,
+        sym (append-nil (text ++ []) ∙ append-nil text),
+        subst (λ l. Run Step start l (text ++ []) script) (sym is) (Run-join Step start script script lines more text [] run (Run-closed script more closed)),
+        Finish-closed script closed,
+      );
+      judged = refl;
+    }) (inr (record { lines = lines; more = more; last = script; cut = is; run = run; closed = closed }))
+
+-- ---- outcomes
 
 -- the input ended
 pub Outcome-end : (old new : Reader) (script next : State) (first now now' before after after' : Option (List ℕ)) (reply : Reply)
-    → Going old script first now before after → Reads step.End old new now now' → (reply, next) ≡ answer_to_end script → Appends after after' (text_of reply)
+    → Going old script first now before after → EndsLines old new script next now now' reply → Appends after after' (text_of reply)
     → Outcome (status_of next.clean) first now' before after'
-Outcome-end old new script next first now now' before after after' reply p r is put =
-    let end = Reading-end p.taken p.lines old new first now now' p.reading r in
+Outcome-end old new script next first now now' before after after' reply p a put =
+    let q = going-quietly old a.pauses.last script a.mid first now a.pauses.between before after a.pauses.lines p a.pauses.inside a.pauses.run in
+    let r = a.pauses.breaks in
+    let end = Reading-end q.taken q.lines a.pauses.last new first a.pauses.between now' q.reading r in
     record {
-      taken = p.taken ++ r.got;
-      text = p.text ++ text_of reply;
+      taken = q.taken ++ r.got;
+      text = q.text ++ text_of reply;
       consumed = end.0;
-      written = Appends-trans before after after' p.text (text_of reply) p.written put;
-      writes = λ input told. ended_writes input (p.taken ++ r.got) p.lines p.text script next reply (subst (λ o. IsAll o (p.taken ++ r.got)) told end.2) end.1 p.run is;
+      written = Appends-trans before after after' q.text (text_of reply) q.written put;
+      writes = λ input told. ended_writes input (q.taken ++ r.got) q.lines q.text a.mid next reply (subst (λ o. IsAll o (q.taken ++ r.got)) told end.2) end.1 q.run a.pauses.runs a.ends;
     }
 
 pub Outcome-end_fault : (old new : Reader) (script next : State) (first now now' before after after' : Option (List ℕ)) (reply : Reply)
-    → Going old script first now before after → Reads step.End old new now now' → (reply, next) ≡ answer_to_end script → AppendsFront after after' (text_of reply)
+    → Going old script first now before after → EndsLines old new script next now now' reply → AppendsFront after after' (text_of reply)
     → Outcome status.WriteFault first now' before after'
-Outcome-end_fault old new script next first now now' before after after' reply p r is put =
-    let end = Reading-end p.taken p.lines old new first now now' p.reading r in
+Outcome-end_fault old new script next first now now' before after after' reply p a put =
+    let q = going-quietly old a.pauses.last script a.mid first now a.pauses.between before after a.pauses.lines p a.pauses.inside a.pauses.run in
+    let r = a.pauses.breaks in
+    let end = Reading-end q.taken q.lines a.pauses.last new first a.pauses.between now' q.reading r in
     record {
-      taken = p.taken ++ r.got;
-      text = p.text ++ put.front;
+      taken = q.taken ++ r.got;
+      text = q.text ++ put.front;
       consumed = end.0;
-      written = Appends-trans before after after' p.text put.front p.written put.taken;
-      writes = λ input told. front_of_end input (p.taken ++ r.got) p.lines p.text put.front put.rest script next reply (subst (λ o. IsAll o (p.taken ++ r.got)) told end.2) end.1 p.run is put.whole;
+      written = Appends-trans before after after' q.text put.front q.written put.taken;
+      writes = λ input told. front_of_end input (q.taken ++ r.got) q.lines q.text put.front put.rest a.mid next reply (subst (λ o. IsAll o (q.taken ++ r.got)) told end.2) end.1 q.run a.pauses.runs a.ends put.whole;
     }
 
 -- the script ended
-pub Outcome-closed : (reader : Reader) (script : State) (first now before after : Option (List ℕ)) → Going reader script first now before after → script.place ≡ place.Closed
+pub Outcome-closed : (reader : Reader) (script : State) (first now before after : Option (List ℕ)) → Going reader script first now before after → script.closed ≡ true
     → Outcome (status_of script.clean) first now before after
 Outcome-closed reader script first now before after p closed = record {
   taken = p.taken;
@@ -158,63 +205,69 @@ Outcome-closed reader script first now before after p closed = record {
 }
 
 -- the source failed
-pub Outcome-read_fault : (old new : Reader) (script : State) (first now now' before after : Option (List ℕ)) → Going old script first now before after → (script.place ≡ place.Closed → ⊥)
-    → Reads step.ReadFault old new now now' → Outcome status.ReadFault first now' before after
-Outcome-read_fault old new script first now now' before after p runs r =
-    let cut = Reading-cut p.taken p.lines old new first now now' step.ReadFault p.reading r r.gives.0 r.gives.2 in
+pub Outcome-read_fault : (old new : Reader) (script : State) (first now now' before after : Option (List ℕ)) → Going old script first now before after → Stops step.ReadFault old new script now now'
+    → Outcome status.ReadFault first now' before after
+Outcome-read_fault old new script first now now' before after p s =
+    let a = s.1 in
+    let q = going-quietly old a.last script s.0 first now a.between before after a.lines p a.inside a.run in
+    let r = a.breaks in
+    let cut = Reading-cut q.taken q.lines a.last new first a.between now' step.ReadFault q.reading r r.gives.0 r.gives.2 in
     record {
-      taken = p.taken ++ r.got;
-      text = p.text;
+      taken = q.taken ++ r.got;
+      text = q.text;
       consumed = cut.0;
-      written = p.written;
-      writes = λ input told. record { last = script; run = subst (λ l. Run Step start l p.text script) (sym cut.1) p.run; runs = runs };
+      written = q.written;
+      writes = λ input told. record { last = s.0; run = subst (λ l. Run Step start l q.text s.0) (sym cut.1) q.run; runs = a.runs };
     }
 
-pub Outcome-limit : (old new : Reader) (script : State) (first now now' before after : Option (List ℕ)) → Going old script first now before after → (script.place ≡ place.Closed → ⊥)
-    → Reads step.InputLimit old new now now' → Outcome status.InputLimit first now' before after
-Outcome-limit old new script first now now' before after p runs r =
-    let cut = Reading-cut p.taken p.lines old new first now now' step.InputLimit p.reading r r.gives.0 r.gives.2 in
+pub Outcome-limit : (old new : Reader) (script : State) (first now now' before after : Option (List ℕ)) → Going old script first now before after → Stops step.InputLimit old new script now now'
+    → Outcome status.InputLimit first now' before after
+Outcome-limit old new script first now now' before after p s =
+    let a = s.1 in
+    let q = going-quietly old a.last script s.0 first now a.between before after a.lines p a.inside a.run in
+    let r = a.breaks in
+    let cut = Reading-cut q.taken q.lines a.last new first a.between now' step.InputLimit q.reading r r.gives.0 r.gives.2 in
     record {
-      taken = p.taken ++ r.got;
-      text = p.text;
+      taken = q.taken ++ r.got;
+      text = q.text;
       consumed = cut.0;
-      written = p.written;
+      written = q.written;
       writes = λ input told. (
-        record { last = script; run = subst (λ l. Run Step start l p.text script) (sym cut.1) p.run; runs = runs },
-        omega (arith, p.room, r.room, r.gives.3, length-append p.taken r.got),
+        record { last = s.0; run = subst (λ l. Run Step start l q.text s.0) (sym cut.1) q.run; runs = a.runs },
+        omega (arith, q.room, r.room, r.gives.3, length-append q.taken r.got),
       );
     }
 
--- a line was read, and its answer was not written whole
-pub Outcome-write_fault : (old new : Reader) (script next : State) (first now now' before after after' : Option (List ℕ)) (line : List ℕ) (reply : Reply)
-    → Going old script first now before after → ReadsLine old new now now' line → (reply, next) ≡ answer_to script line → AppendsFront after after' (text_of reply)
+-- lines were read, and their answer was not written whole
+pub Outcome-write_fault : (old new : Reader) (script next : State) (first now now' before after after' : Option (List ℕ)) (reply : Reply)
+    → Going old script first now before after → AnswersLines old new script next now now' reply → AppendsFront after after' (text_of reply)
     → Outcome status.WriteFault first now' before after'
-Outcome-write_fault old new script next first now now' before after after' line reply p r is put =
-    let reading = Reading-first p.taken p.lines line old new first now now' r.answer p.reading r.reads r.is_first in
-    let run = Run-join Step start script next p.lines (line ∷ []) p.text (text_of reply) p.run (Run-one Step script next line (text_of reply) (Step-answer script next line reply (Run-sound start script p.lines p.text sound-start p.run) is)) in
+Outcome-write_fault old new script next first now now' before after after' reply p a put =
+    let on = reads-on p.taken p.lines a.lines old new first now now' p.reading a.reads in
     record {
-      taken = p.taken ++ r.reads.got;
+      taken = p.taken ++ on.got;
       text = p.text ++ put.front;
-      consumed = reading.consumed;
+      consumed = on.reading.consumed;
       written = Appends-trans before after after' p.text put.front p.written put.taken;
       writes = λ input told.
-          let more = Reading-lines (p.taken ++ r.reads.got) (p.lines ++ line ∷ []) new first now' input reading told in
-          front_of input (p.lines ++ line ∷ []) more.0 (p.text ++ text_of reply) (p.text ++ put.front) put.rest next more.1 run (ap (λ l. p.text ++ l) put.whole ∙ sym (append_assoc p.text put.front put.rest));
+          let more = Reading-lines (p.taken ++ on.got) (p.lines ++ a.lines) new first now' input on.reading told in
+          front_of input (p.lines ++ a.lines) more.0 (p.text ++ text_of reply) (p.text ++ put.front) put.rest next more.1 (Run-join Step start script next p.lines a.lines p.text (text_of reply) p.run a.run)
+          (ap (λ l. p.text ++ l) put.whole ∙ sym (append_assoc p.text put.front put.rest));
     }
 
--- a line was read, and there was no memory to answer it
-pub Outcome-no_memory : (old new : Reader) (script : State) (first now now' before after : Option (List ℕ)) (line : List ℕ)
-    → Going old script first now before after → ReadsLine old new now now' line → Outcome status.NoMemory first now' before after
-Outcome-no_memory old new script first now now' before after line p r =
-    let reading = Reading-first p.taken p.lines line old new first now now' r.answer p.reading r.reads r.is_first in
+-- lines were read, and there was no memory to answer them
+pub Outcome-no_memory : (old new : Reader) (script : State) (first now now' before after : Option (List ℕ))
+    → Going old script first now before after → Gets old new now now' → Outcome status.NoMemory first now' before after
+Outcome-no_memory old new script first now now' before after p g =
+    let on = reads-on p.taken p.lines g.lines old new first now now' p.reading g.reads in
     record {
-      taken = p.taken ++ r.reads.got;
+      taken = p.taken ++ on.got;
       text = p.text;
-      consumed = reading.consumed;
+      consumed = on.reading.consumed;
       written = p.written;
       writes = λ input told.
-          let more = Reading-lines (p.taken ++ r.reads.got) (p.lines ++ line ∷ []) new first now' input reading told in
-          front_of input p.lines (line ∷ more.0) p.text p.text [] script (more.1 ∙ append_assoc p.lines (line ∷ []) more.0) p.run (sym (append-nil p.text));
+          let more = Reading-lines (p.taken ++ on.got) (p.lines ++ g.lines) new first now' input on.reading told in
+          front_of input p.lines (g.lines ++ more.0) p.text p.text [] script (more.1 ∙ append_assoc p.lines g.lines more.0) p.run (sym (append-nil p.text));
     }
 
 -- nothing was read or written

@@ -1,6 +1,10 @@
-pub mod WordLemmas
-pub mod LinearLemmas
-pub mod Going
-pub mod RunLemmas
-pub mod Justified
+pub mod AskedLemmas
 pub mod SoundLemmas
+pub mod RunLemmas
+pub mod TurnLemmas
+pub mod ClaimLemmas
+pub mod RefusalLemmas
+pub mod AsksLemmas
+pub mod Going
+pub mod WriteLemmas
+pub mod EvidenceLemmas

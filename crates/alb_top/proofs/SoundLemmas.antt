@@ -1,178 +1,372 @@
--- Every state that a script comes to is sound, and in a sound state the consequences of the forms are the textbook's.
-use Rattle.std.proofs.Common.{◌≡◌, ℕ, ◌+◌, Bool, true, false, List, [], ◌∷◌, ◌++◌, Option, Some, None, Result, Ok, Err, refl, sym, ap, ◌∙◌, subst, arith, IfSome, length, map}
-use Rattle.std.specs.Prelude.{if◌then◌else◌, ◌&&◌, IsTrue, All, codes, nat_lt, is_none, drop}
-use Rattle.std.specs.Option.{option_map}
-use Rattle.std.proofs.lemmas.Bool.{false≢true}
-use Rattle.alb_mono.specs.Letters.{alphabet}
-use Rattle.alb_mono.specs.Listing.{Each}
-use Rattle.alb_mono.specs.Tree.{AreBelow, are_below}
-use Rattle.alb_mono.proofs.Leaves.{below_from_test}
-use Rattle.alb_lex.specs.Lexing.{tokens_from}
+-- Every state that a script comes to is sound, and each line has an answer there, which is justified.
+use Rattle.std.proofs.Common.{◌≡◌, ℕ, ◌+◌, ◌<◌, Bool, true, false, List, [], ◌∷◌, ◌++◌, length, map, Option, Some, None, Result, Ok, Err, refl, sym, ap, ◌∙◌, subst, append_assoc, arith}
+use Rattle.std.specs.Prelude.{if◌then◌else◌, IsTrue, All, codes, nat_lt, nat_le, sum, ◌==◌}
+use Rattle.std.proofs.lemmas.Bool.Decides.{nat_tests}
+use Rattle.std.proofs.lemmas.List.{append-nil}
 use Rattle.alb_lex.specs.declared.token.Token.{Token}
-use Rattle.alb_lex.specs.declared.error.LexError.{LexError}
-use Rattle.alb_syntax.specs.Reading.{denoted}
-use Rattle.alb_syntax.specs.declared.error.SyntaxError.{SyntaxError}
-use Rattle.alb_syntax.proofs.Found.{denoted-found}
-use Rattle.alb_syntax.proofs.Known.{denoted-known}
+use Rattle.gf_field.specs.Primes.{IsInTable, is_in_table, primes}
+use Rattle.gf_field.proofs.Table.{IsPrime-from_table}
+use Rattle.alb_mono.specs.Tree.{are_below}
 use Rattle.alb_poly.specs.Poly.{Poly}
 use Rattle.alb_poly.specs.Instance.{Form, linearization}
-use Rattle.alb_poly.specs.Identity.{Identity, IsHomogeneous, AreHomogeneous, linearizations, polynomials, AreSameForms}
+use Rattle.alb_poly.specs.Identity.{IsHomogeneous, AreHomogeneous, linearizations, polynomials, AreSameForms}
 use Rattle.alb_poly.specs.Consequence.{IsConsequence}
 use Rattle.alb_poly.specs.Textbook.{IsTextConsequence}
 use Rattle.alb_poly.proofs.NormalLemmas.{normal-same}
 use Rattle.alb_poly.proofs.Multilinear.{each-append, each-map}
-use Rattle.alb_linear.specs.Identity.{leading_type, identity_fault, Fault}
-use Rattle.alb_linear.proofs.LinearLemmas.{each_from_all, identity-fits, homogeneous, same_type}
+use Rattle.alb_linear.specs.Identity.{leading_type, identity_fault, linear_count, Fault}
+use Rattle.alb_problem.specs.Builder.{Builder, linear_form, with_degrees}
+use Rattle.alb_problem.proofs.BuilderLemmas.{homogeneous-no_fault}
+use Rattle.alb_problem.specs.Generators.{letters, counts, fits, are_whole, fault_from, generators_fault}
+use Rattle.alb_problem.specs.Refusals as refusals
+use Rattle.alb_problem.specs.Refusals.{field_refusal, bad_generators, generators_refusal, identity_refusal, fault_refusal, finish_refusal}
 use Rattle.alb_problem.proofs.LawLemmas.{consequences-text}
-use Rattle.alb_top.specs.Words.{after, is_word, generators_of, line_of}
-use Rattle.alb_top.specs.Script.{State, Refusal, start, or_refused, asked, answer_at, answer_to, identity_of, claim_of, poly_at, or_lex, or_syntax, behind, judged, is_multilinear, linear_form}
-use Rattle.alb_top.specs.Sound.{AreSound, IsSound}
-use Rattle.alb_top.specs.declared.reply.Place.{Place}
-use Rattle.alb_top.specs.declared.reply.Place.TheVariants as place
-use Rattle.alb_top.specs.declared.reply.Reply.{Reply}
-use Rattle.alb_top.specs.declared.reply.Reply.TheVariants as reply
+use Rattle.alb_script.specs.Asked as asking
+use Rattle.alb_script.specs.Asked.{Asked, asked}
+use Rattle.alb_script.specs.Refusals.{command_text}
+use Rattle.alb_script.specs.declared.error.CommandError.{CommandError}
+use Rattle.alb_deriv.specs.Derivation as derivation
+use Rattle.alb_deriv.specs.Derivation.{claim_fault}
+use Rattle.alb_deriv.proofs.Judged.{no_fault-derivation, derived-consequence}
+use Rattle.alb_check.specs.Raw.{Raw, IsRaw}
+use Rattle.alb_check.specs.Verdict as tables
+use Rattle.alb_check.proofs.VerdictLemmas as table
+use Rattle.alb_evidence.specs.Block as block
+use Rattle.alb_evidence.specs.Block.{evidence_of}
+use Rattle.alb_evidence.specs.Words.{is_end}
+use Rattle.alb_top.specs.Verdict.{Verdict, Rejected, IsVerdict, IsJustified, derived, block_text, of_table}
+use Rattle.alb_top.specs.Script.{State, Open, NoBlock, Claimed, Refused, Reply, Nothing, Accepted, NumberedIdentity, RefusedLine, Judged, start, forms_of, unless, stated, with_problem, tell, built_unless, obey, obey_line, asked_of, command, letters_of, total_of, begins_claim, shut, Judges, EndsBlock, inside, OfBlock, AnswersIn, AnswersLine, AnswersEnd, Step, Finish, text_of}
+use Rattle.alb_top.specs.View.{IsTimely}
+use Rattle.alb_top.specs.Sound.{IsSoundProblem, IsSound, IsBehindBuild}
+use Rattle.alb_top.proofs.EvidenceLemmas.{evidence-raw}
+use Rattle.alb_top.proofs.AskedLemmas.{asked-timely, asked-known}
 
--- ---- the letters of what was read
+-- ---- the problem
 
-each_weaker : {X : Type 0} (P Q : X → Type 0) (xs : List X) → ((x : X) → P x → Q x) → Each P xs → Each Q xs
-each_weaker P Q [] k h = tt
-each_weaker P Q (x ∷ xs) k h = (k x h.0, each_weaker P Q xs k h.1)
+field-in_table : (p : ℕ) (named b : Bool) → b ≡ is_in_table p → (if named then Some refusals.FieldAfterIdentity else if b then None else Some refusals.NotInTable) ≡ None → IsInTable p
+field-in_table p true b is h = absurd (cc)
+field-in_table p false true is h = subst IsTrue is refl
+field-in_table p false false is h = absurd (cc)
 
-below_26 : (f : Poly) → All (λ t. IsTrue (are_below 26 t.1)) f → Each (λ t. AreBelow 26 t.1) f
-below_26 f h = each_weaker (λ t. IsTrue (are_below 26 t.1)) (λ t. AreBelow 26 t.1) f (λ t b. below_from_test 26 t.1 b) (each_from_all (λ t. IsTrue (are_below 26 t.1)) f h)
+from-whole : (b : Bool) (end : ℕ) → (if b then None else Some end) ≡ None → b ≡ true
+from-whole true end h = refl
+from-whole false end h = absurd (cc)
 
-read_known : (end : ℕ) (ts : List Token) (r : Result Poly SyntaxError) (f : Poly) → denoted (record { field = 251; letters = alphabet; end = end }) ts ≡ r → or_syntax r ≡ Ok f
-    → All (λ t. IsTrue (are_below (length alphabet) t.1)) f
-read_known end ts (Err e) f is h = absurd (cc)
-read_known end ts (Ok g) f is h =
-    let same : g ≡ f = cc in
-    subst (λ (k : Poly). All (λ t. IsTrue (are_below (length alphabet) t.1)) k) same
-    (denoted-known 251 alphabet ts (Ok g) (denoted-found (record { field = 251; letters = alphabet; end = end }) ts g is))
+-- each count has its letter
+whole-named : (ls ns : List ℕ) → are_whole ls ns ≡ true → length ls ≡ length ns
+whole-named ls ns h = grind (arith, nat_tests, h)
 
-lexed_known : (end : ℕ) (r : Result (List Token) LexError) (f : Poly) → or_lex alphabet end r ≡ Ok f → All (λ t. IsTrue (are_below (length alphabet) t.1)) f
-lexed_known end (Err e) f h = absurd (cc)
-lexed_known end (Ok ts) f h = read_known end ts (denoted (record { field = 251; letters = alphabet; end = end }) ts) f refl h
+fits-none : (b : Bool) (o : Option ℕ) (place : ℕ) → (if b then o else Some place) ≡ None → o ≡ None
+fits-none true o place h = h
+fits-none false o place h = absurd (cc)
 
-poly_known : (line : List ℕ) (f : Poly) → poly_at alphabet 9 line ≡ Ok f → Each (λ t. AreBelow 26 t.1) f
-unfolding alphabet
-poly_known line f h = below_26 f (lexed_known (length line + 1) (tokens_from false 10 (drop 9 line)) f h)
+fault-named : (before ts : List Token) (end : ℕ) → fault_from before ts end ≡ None → length (letters (before ++ ts)) ≡ length (counts (before ++ ts))
+fault-named before [] end h =
+    subst (λ xs. length (letters xs) ≡ length (counts xs)) (sym (append-nil before)) (whole-named (letters before) (counts before) (from-whole (are_whole (letters before) (counts before)) end h))
+fault-named before (t ∷ ts) end h =
+    let k : fault_from (before ++ t ∷ []) ts end ≡ None = fits-none (fits (letters before) (counts before) t.kind) (fault_from (before ++ t ∷ []) ts end) t.from h in
+    subst (λ xs. length (letters xs) ≡ length (counts xs)) (append_assoc before (t ∷ []) ts) (fault-named (before ++ t ∷ []) ts end k)
 
--- ---- what is accepted is homogeneous
+bad-none : (o : Option ℕ) → bad_generators o ≡ None → o ≡ None
+bad-none None h = refl
+bad-none (Some place) h = absurd (cc)
 
-both : (a b : Bool) → (a && b) ≡ true → (a ≡ true) × (b ≡ true)
-both true b h = (refl, h)
-both false b h = absurd (false≢true h)
+generators-named : (twice : Bool) (ts : List Token) (end : ℕ) → (if twice then Some refusals.GeneratorsTwice else bad_generators (generators_fault ts end)) ≡ None → length (letters ts) ≡ length (counts ts)
+generators-named true ts end h = absurd (cc)
+generators-named false ts end h = fault-named [] ts end (bad-none (generators_fault ts end) h)
 
-none_is : (o : Option Fault) → is_none o ≡ true → o ≡ None
-none_is None h = refl
-none_is (Some x) h = absurd (false≢true h)
+fault-none : (o : Option Fault) (n : ℕ) → fault_refusal o n ≡ None → o ≡ None
+fault-none None n h = refl
+fault-none (Some x) n h = absurd (cc)
 
-multilinear_homogeneous : (f : Poly) → Each (λ t. AreBelow 26 t.1) f → is_multilinear f ≡ true → IsHomogeneous (leading_type f) f
-multilinear_homogeneous f b h =
-    let fit = identity-fits f (none_is (identity_fault f) (both _ _ h).0) in
-    homogeneous (leading_type f) f b (same_type (leading_type f) f fit.one_type)
+refusal-none : (many : Bool) (o : Option Fault) (n : ℕ) → (if many then Some refusals.TooManyIdentities else fault_refusal o n) ≡ None → o ≡ None
+refusal-none true o n h = absurd (cc)
+refusal-none false o n h = fault-none o n h
 
--- ---- each step keeps it
+unless-sound : (o : Option refusals.Refusal) (reply : Reply) (new old : Builder) → IsSoundProblem old → (o ≡ None → IsSoundProblem new) → IsSoundProblem (unless o reply new old).1
+unless-sound None reply new old h k = k refl
+unless-sound (Some r) reply new old h k = h
 
-map-append : {X Y : Type 0} (g : X → Y) (xs ys : List X) → map g (xs ++ ys) ≡ map g xs ++ map g ys
-map-append g [] ys = refl
-map-append g (x ∷ xs) ys = ap (λ l. g x ∷ l) (map-append g xs ys)
+-- a statement's identity is over the letters a to z
+abbrev IsKnown : Asked → Type 0
+IsKnown (asking.Identity f) = All (λ t. IsTrue (are_below 26 t.1)) f
+IsKnown other = Unit {0}
 
-one_more : (fs : List Poly) (ls : List Form) (f : Poly) → IsHomogeneous (leading_type f) f → AreSound fs ls → AreSound (fs ++ f ∷ []) (ls ++ linear_form f ∷ [])
-one_more fs ls f new h = record {
-  homogeneous = each-append (λ f. IsHomogeneous (leading_type f) f) fs (f ∷ []) h.homogeneous (new, tt);
-  forms = ap (λ l. l ++ linear_form f ∷ []) h.forms ∙ sym (map-append linear_form fs (f ∷ []));
+pub stated-sound : (b : Builder) (a : Asked) → IsSoundProblem b → IsKnown a → IsSoundProblem (stated b a).1
+stated-sound b (asking.Field p) h k =
+    unless-sound (field_refusal b p) Accepted (record { field = p; letters = b.letters; counts = b.counts; identities = b.identities }) b h (λ none. record {
+      field = field-in_table p (nat_lt 0 (length b.identities)) (is_in_table p) refl none;
+      named = h.named;
+      homogeneous = h.homogeneous;
+    })
+stated-sound b (asking.Generators ts end) h k =
+    unless-sound (generators_refusal b ts end) Accepted (record { field = b.field; letters = letters ts; counts = counts ts; identities = b.identities }) b h (λ none. record {
+      field = h.field;
+      named = generators-named (nat_lt 0 (length b.letters)) ts end none;
+      homogeneous = h.homogeneous;
+    })
+stated-sound b (asking.Identity f) h k =
+    unless-sound (identity_refusal b f) (NumberedIdentity (length b.identities + 1)) (record { field = b.field; letters = b.letters; counts = b.counts; identities = b.identities ++ f ∷ [] }) b h (λ none. record {
+      field = h.field;
+      named = h.named;
+      homogeneous = each-append (λ f. IsHomogeneous (leading_type f) f) b.identities (f ∷ []) h.homogeneous
+          (homogeneous-no_fault f k (refusal-none (nat_le 32 (length b.identities)) (identity_fault f) (linear_count f) none), tt);
+    })
+stated-sound b asking.Blank h k = h
+stated-sound b asking.Build h k = h
+stated-sound b (asking.Polynomial f) h k = h
+stated-sound b (asking.Prove f) h k = h
+stated-sound b asking.Dimensions h k = h
+stated-sound b asking.Table h k = h
+stated-sound b (asking.Claim f) h k = h
+stated-sound b (asking.Await n) h k = h
+stated-sound b asking.Quit h k = h
+
+-- ---- commands
+
+behind_build : (o : Open) (built : Bool) → IsBehindBuild o built → IsBehindBuild o true
+behind_build NoBlock built h = tt
+behind_build (Claimed f lines) built h = refl
+behind_build (Refused text) built h = tt
+
+told-sound : (s : State) (reply : Reply) → IsSound s → IsSound (tell reply s).1
+told-sound s reply h = record { problem = h.problem; accepted = h.accepted; claims = h.claims }
+
+built-sound : (o : Option refusals.Refusal) (s : State) → finish_refusal s.problem ≡ o → IsSound s → IsSound (built_unless o s).1
+built-sound None s is h = record { problem = h.problem; accepted = λ b. is; claims = behind_build s.block s.built h.claims }
+built-sound (Some r) s is h = record { problem = h.problem; accepted = h.accepted; claims = h.claims }
+
+with-sound : (s : State) (a : Asked) → s.built ≡ false → IsSound s → IsKnown a → IsSound (with_problem s (stated s.problem a)).1
+with-sound s a early h k = record {
+  problem = stated-sound s.problem a h.problem k;
+  accepted = λ b. absurd (let e : false ≡ true = sym early ∙ b in cc);
+  claims = h.claims;
 }
 
--- an answer's state is sound, where there is one
-abbrev Is : Option (Reply × State) → Type 0
-Is o = IfSome o (λ a. IsSound a.1)
+sound-obey : (s : State) (a : Asked) → IsSound s → IsTimely s.built a → IsKnown a → IsSound (obey s a).1
+sound-obey s asking.Blank h t k = told-sound s Nothing h
+sound-obey s (asking.Field p) h t k = with-sound s (asking.Field p) t h k
+sound-obey s (asking.Generators ts end) h t k = with-sound s (asking.Generators ts end) t h k
+sound-obey s (asking.Identity f) h t k = with-sound s (asking.Identity f) t h k
+sound-obey s asking.Build h t k = built-sound (finish_refusal s.problem) s refl h
+sound-obey s (asking.Claim f) h t k = record { problem = h.problem; accepted = h.accepted; claims = t }
+sound-obey s asking.Quit h t k = record { problem = h.problem; accepted = h.accepted; claims = h.claims }
+sound-obey s (asking.Polynomial f) h t k = absurd t
+sound-obey s (asking.Prove f) h t k = absurd t
+sound-obey s asking.Dimensions h t k = absurd t
+sound-obey s asking.Table h t k = absurd t
+sound-obey s (asking.Await n) h t k = absurd t
 
-or_is : (s : State) (o : Option (Reply × State)) → IsSound s → Is o → IsSound (or_refused s o).1
-or_is s None h k = h
-or_is s (Some a) h k = k
+known-asked : (s : State) (line : List ℕ) (a : Asked) → asked_of s line ≡ Ok a → IsKnown a
+known-asked s line (asking.Identity f) h = asked-known s.built (total_of s) s.problem.field (letters_of s) line f h
+known-asked s line asking.Blank h = tt
+known-asked s line (asking.Field p) h = tt
+known-asked s line (asking.Generators ts end) h = tt
+known-asked s line asking.Build h = tt
+known-asked s line (asking.Polynomial f) h = tt
+known-asked s line (asking.Prove f) h = tt
+known-asked s line asking.Dimensions h = tt
+known-asked s line asking.Table h = tt
+known-asked s line (asking.Claim f) h = tt
+known-asked s line (asking.Await n) h = tt
+known-asked s line asking.Quit h = tt
 
-choice : (b : Bool) (x y : Option (Reply × State)) → (b ≡ true → Is x) → Is y → Is (if b then x else y)
-choice true x y h k = h refl
-choice false x y h k = k
+refused-sound : (b : Bool) (s : State) (e : CommandError) → IsSound s → IsSound (if b then tell Nothing (record s { block = Refused (command_text e) }) else tell (RefusedLine (command_text e)) s).1
+refused-sound true s e h = record { problem = h.problem; accepted = h.accepted; claims = tt }
+refused-sound false s e h = told-sound s (RefusedLine (command_text e)) h
 
-mapped : {A : Type 0} (f : A → Reply × State) (o : Option A) → ((x : A) → IsSound (f x).1) → Is (option_map f o)
-mapped f None h = tt
-mapped f (Some x) h = h x
+obeyed-sound : (s : State) (line : List ℕ) (r : Result Asked CommandError) → asked_of s line ≡ r → IsSound s → IsSound (obey_line s line r).1
+obeyed-sound s line (Ok a) is h =
+    sound-obey s a h (asked-timely s.built (total_of s) s.problem.field (letters_of s) line a is) (known-asked s line a is)
+obeyed-sound s line (Err e) is h = refused-sound (begins_claim line) s e h
 
-identity_is : (s : State) (r : Result Poly Refusal) → ((f : Poly) → r ≡ Ok f → Each (λ t. AreBelow 26 t.1) f) → IsSound s → Is (identity_of s r)
-identity_is s (Err e) known h = h
-identity_is s (Ok f) known h = choice (is_multilinear f) _ None (λ b. one_more s.identities s.forms f (multilinear_homogeneous f (known f refl) b) h) tt
+command_sound : (long : Bool) (s : State) (line : List ℕ) → IsSound s → IsSound (if long then tell (RefusedLine (codes "refused 84\n")) s else obey_line s line (asked_of s line)).1
+command_sound true s line h = told-sound s (RefusedLine (codes "refused 84\n")) h
+command_sound false s line h = obeyed-sound s line (asked_of s line) refl h
 
-claim_is : (s : State) (r : Result Poly Refusal) → IsSound s → Is (claim_of s r)
-claim_is s (Err e) h = h
-claim_is s (Ok f) h = h
-
-judged_is : (b : Bool) (s : State) → IsSound s → Is (Some (judged b s))
-judged_is true s h = h
-judged_is false s h = h
-
-build_is : (s : State) (line : List ℕ) → IsSound s → Is (asked place.Identities s line)
-build_is s line h =
-    let ready : Option (Reply × State) = Some (reply.Ready, record s { place = place.Claim }) in
-    let read : Option (Reply × State) = identity_of s (poly_at alphabet 9 line) in
-    let named : Option (Reply × State) = behind (codes "identity ") line read in
-    let later : Option (Reply × State) = if nat_lt (length s.forms) 32 then named else None in
-    choice (is_word (codes "build") line && nat_lt 0 (length s.forms)) ready later (λ b. h)
-    (choice (nat_lt (length s.forms) 32) named None
-    (λ b. choice (is_none (after (codes "identity ") line)) None read (λ b. tt) (identity_is s (poly_at alphabet 9 line) (poly_known line) h)) tt)
-
-end_is : (s : State) (line : List ℕ) → IsSound s → Is (asked place.Block s line)
-end_is s line h = choice (is_word (codes "end") line) _ (option_map (λ l. (reply.Nothing, record s { lines = s.lines ++ l ∷ [] })) (line_of s.letters (length s.lines + 1) line))
-    (λ b. judged_is _ s h)
-    (mapped (λ l. (reply.Nothing, record s { lines = s.lines ++ l ∷ [] })) (line_of s.letters (length s.lines + 1) line) (λ l. h))
-
-asked_is : (p : Place) (s : State) (line : List ℕ) → IsSound s → Is (asked p s line)
-asked_is place.Generators s line h =
-    mapped (λ ps. (reply.Ok, record s { place = place.Identities; letters = map (λ q. q.1) ps; target = map (λ q. q.0) ps })) (generators_of line) (λ ps. h)
-asked_is place.Identities s line h = build_is s line h
-asked_is place.Claim s line h = choice (is_none (after (codes "claim ") line)) None (claim_of s (poly_at s.letters 6 line)) (λ b. tt) (claim_is s (poly_at s.letters 6 line) h)
-asked_is place.Derivation s line h = choice (is_word (codes "derivation") line) (Some (reply.Nothing, record s { place = place.Block })) None (λ b. h) tt
-asked_is place.Block s line h = end_is s line h
-asked_is place.InputEnd s line h = tt
-asked_is place.Closed s line h = tt
-
-short_is : (p : Place) (s : State) (line : List ℕ) → IsSound s → IsSound (or_refused s (if nat_lt 65536 (length line) then None else asked p s line)).1
-short_is p s line h = or_is s _ h (choice (nat_lt 65536 (length line)) None (asked p s line) (λ b. tt) (asked_is p s line h))
-
-at_is : (p : Place) (s : State) (line : List ℕ) → IsSound s → IsSound (answer_at p s line).1
-at_is place.Generators s line h = short_is place.Generators s line h
-at_is place.Identities s line h = short_is place.Identities s line h
-at_is place.Claim s line h = short_is place.Claim s line h
-at_is place.Derivation s line h = short_is place.Derivation s line h
-at_is place.Block s line h = short_is place.Block s line h
-at_is place.InputEnd s line h = short_is place.InputEnd s line h
-at_is place.Closed s line h = h
-
-pub sound-step : (s : State) (line : List ℕ) → IsSound s → IsSound (answer_to s line).1
-sound-step s line h = at_is s.place s line h
-
-pub sound-start : IsSound start
-sound-start = record { homogeneous = tt; forms = refl }
+command-sound : (s : State) (line : List ℕ) → IsSound s → IsSound (command s line).1
+command-sound s line h = command_sound (nat_lt 65536 (length line)) s line h
 
 -- ---- consequences
 
-abbrev named : Poly → Identity
-named f = record { degrees = leading_type f; terms = f }
-
-polynomials-named : (fs : List Poly) → polynomials (map named fs) ≡ fs
+polynomials-named : (fs : List Poly) → polynomials (map with_degrees fs) ≡ fs
 polynomials-named [] = refl
 polynomials-named (f ∷ fs) = ap (λ l. f ∷ l) (polynomials-named fs)
 
-same-named : (fs : List Poly) → AreSameForms 251 (map linear_form fs) (linearizations (map named fs))
-same-named [] = tt
-same-named (f ∷ fs) = (record { degree = refl; terms = normal-same 251 (linearization (leading_type f) f).terms }, same-named fs)
+same-named : (p : ℕ) (fs : List Poly) → AreSameForms p (map (linear_form p) fs) (linearizations (map with_degrees fs))
+same-named p [] = tt
+same-named p (f ∷ fs) = (record { degree = refl; terms = normal-same p (linearization (leading_type f) f).terms }, same-named p fs)
 
--- in a sound state a consequence of the forms is one of the identities, in the textbook's sense
-pub text-consequence : (s : State) → IsSound s → IsConsequence 251 s.forms s.claim → IsTextConsequence 251 s.identities s.claim
-text-consequence s h c =
-    let hom : AreHomogeneous (map named s.identities) =
-    each-map (λ f. IsHomogeneous (leading_type f) f) (λ i. IsHomogeneous i.degrees i.terms) named s.identities (λ f a. a) h.homogeneous in
-    let same : AreSameForms 251 s.forms (linearizations (map named s.identities)) =
-    subst (λ ls. AreSameForms 251 ls (linearizations (map named s.identities))) (sym h.forms) (same-named s.identities) in
-    subst (λ fs. IsTextConsequence 251 fs s.claim) (polynomials-named s.identities) (consequences-text 251 s.forms (map named s.identities) s.claim (omega arith) hom same c)
+all-homogeneous : (b : Builder) → IsSoundProblem b → AreHomogeneous (map with_degrees b.identities)
+all-homogeneous b h = each-map (λ f. IsHomogeneous (leading_type f) f) (λ i. IsHomogeneous i.degrees i.terms) with_degrees b.identities (λ f a. a) h.homogeneous
+
+table-positive : (p : ℕ) → IsInTable p → 0 < p
+table-positive p h = let prime = IsPrime-from_table p h in omega (arith, prime.above_one)
+
+-- a consequence of the linearizations is one of the identities, in the textbook's sense
+text-consequence : (b : Builder) (g : Poly) → IsSoundProblem b → IsConsequence b.field (forms_of b) g → IsTextConsequence b.field b.identities g
+text-consequence b g h c =
+    subst (λ fs. IsTextConsequence b.field fs g) (polynomials-named b.identities)
+    (consequences-text b.field (forms_of b) (map with_degrees b.identities) g (table-positive b.field h.field) (all-homogeneous b h) (same-named b.field b.identities) c)
+
+-- ---- verdicts
+
+derived-justified : (b : Builder) (g : Poly) (o : Option (derivation.Fault × ℕ)) → (o ≡ None → IsTextConsequence b.field b.identities g) → IsJustified b.field b.identities g (derived o)
+derived-justified b g None h = h refl
+derived-justified b g (Some fault) h = tt
+
+finish-large : (a c : Bool) → (if a then Some refusals.NoGenerators else if c then Some refusals.FieldTooSmall else None) ≡ None → c ≡ false
+finish-large true c h = absurd (cc)
+finish-large false true h = absurd (cc)
+finish-large false false h = refl
+
+accepted-large : (b : Builder) → finish_refusal b ≡ None → sum b.counts < b.field
+accepted-large b h =
+    let small : nat_le b.field (sum b.counts) ≡ false = finish-large (length b.letters == 0) (nat_le b.field (sum b.counts)) h in
+    grind (arith, nat_tests, small)
+
+-- what a table refutes is no consequence
+refuted-text : (b : Builder) (g : Poly) (t : Raw) → IsSoundProblem b → finish_refusal b ≡ None → IsRaw b.field (length b.counts) t
+    → tables.IsVerdict b.field b.counts (forms_of b) t g tables.Refuted → IsTextConsequence b.field b.identities g → ⊥
+refuted-text b g t h accepted raw is c =
+    table.refuted-text b.field b.counts (forms_of b) t g (IsPrime-from_table b.field h.field) (accepted-large b accepted) raw is
+    (map with_degrees b.identities) (all-homogeneous b h) (same-named b.field b.identities) (subst (λ fs. IsTextConsequence b.field fs g) (sym (polynomials-named b.identities)) c)
+
+table-justified : (b : Builder) (g : Poly) (t : Raw) (w : tables.Verdict) → IsSoundProblem b → finish_refusal b ≡ None → IsRaw b.field (length b.counts) t
+    → tables.IsVerdict b.field b.counts (forms_of b) t g w → IsJustified b.field b.identities g (of_table w)
+table-justified b g t tables.Refuted h accepted raw is = refuted-text b g t h accepted raw is
+table-justified b g t (tables.BadShape r) h accepted raw is = tt
+table-justified b g t (tables.Fails i ks) h accepted raw is = tt
+table-justified b g t tables.ValueZero h accepted raw is = tt
+
+-- where the evidence is a table, it is one over the field and the generators
+abbrev pub IsRead : Builder → Result block.Evidence block.Fault → Type 0
+IsRead b (Ok (block.NotZero t)) = IsRaw b.field (length b.counts) t
+IsRead b other = Unit {0}
+
+pub verdict-justified : (b : Builder) (g : Poly) (given : Result block.Evidence block.Fault) (v : Verdict) → IsSoundProblem b → finish_refusal b ≡ None → IsRead b given
+    → IsVerdict b.field b.counts (forms_of b) g given v → IsJustified b.field b.identities g v
+verdict-justified b g (Err fault) v h accepted raw is = subst (IsJustified b.field b.identities g) (sym is) tt
+verdict-justified b g (Ok (block.Zero lines)) v h accepted raw is =
+    subst (IsJustified b.field b.identities g) (sym is) (derived-justified b g (claim_fault b.field b.counts (forms_of b) g lines) (λ none.
+    text-consequence b g h (derived-consequence b.field b.counts (forms_of b) g lines (no_fault-derivation b.field b.counts (forms_of b) g lines (table-positive b.field h.field) none))))
+verdict-justified b g (Ok (block.NotZero t)) v h accepted raw is =
+    subst (IsJustified b.field b.identities g) (sym is.2) (table-justified b g t is.0 h accepted raw is.1)
+
+judged-some : (p : ℕ) (target : List ℕ) (fs : List Form) (g : Poly) (given : Result block.Evidence block.Fault) → (v : Verdict) × IsVerdict p target fs g given v
+judged-some p target fs g (Err fault) = (Rejected (block_text fault), refl)
+judged-some p target fs g (Ok (block.Zero lines)) = (derived (claim_fault p target fs g lines), refl)
+judged-some p target fs g (Ok (block.NotZero t)) =
+    let w = table.verdict-some p target fs t g in
+    (of_table w.0, (w.0, w.1, refl))
+
+-- ---- each line has an answer
+
+-- an answer of this kind, to a sound state
+abbrev Some_answer : (Reply → State → Type 0) → Type 0
+Some_answer Answers = (reply : Reply) × (new : State) × Answers reply new × IsSound new
+
+judges-some : (old : State) (f : Poly) (given : Result block.Evidence block.Fault) → IsSound old → old.built ≡ true → IsRead old.problem given → Some_answer (Judges old f given)
+judges-some old f given h built raw =
+    let v = judged-some old.problem.field old.problem.counts (forms_of old.problem) f given in (
+      Judged v.0,
+      (tell (Judged v.0) (shut old)).1,
+      record {
+        verdict = v.0;
+        judged = v.1;
+        told = refl;
+        justified = verdict-justified old.problem f given v.0 h.problem (h.accepted built) raw v.1;
+      },
+      record { problem = h.problem; accepted = h.accepted; claims = tt },
+    )
+
+is_read : (b : Builder) (given : Result block.Evidence block.Fault) → ((t : Raw) → given ≡ Ok (block.NotZero t) → IsRaw b.field (length b.counts) t) → IsRead b given
+is_read b (Err fault) h = tt
+is_read b (Ok (block.Zero lines)) h = tt
+is_read b (Ok (block.NotZero t)) h = h t refl
+
+-- what a block gives behind `build`
+pub evidence-read : (b : Builder) (ls : List ℕ) (lines : List (List ℕ)) (has_end : Bool) → IsInTable b.field → length ls ≡ length b.counts → IsRead b (evidence_of b.field ls lines has_end)
+evidence-read b ls lines has_end field named =
+    is_read b (evidence_of b.field ls lines has_end) (λ t is. subst (λ n. IsRaw b.field n t) named (evidence-raw b.field ls lines has_end t (table-positive b.field field) is))
+
+letters-built : (b : Bool) (ls : List ℕ) → b ≡ true → (if b then ls else []) ≡ ls
+letters-built true ls h = refl
+letters-built false ls h = absurd (cc)
+
+read-evidence : (s : State) (lines : List (List ℕ)) (has_end : Bool) → IsSound s → s.built ≡ true → IsRead s.problem (evidence_of s.problem.field (letters_of s) lines has_end)
+read-evidence s lines has_end h built =
+    evidence-read s.problem (letters_of s) lines has_end h.problem.field (ap length (letters-built s.built s.problem.letters built) ∙ h.problem.named)
+
+ends-some : (o : Open) (old : State) (has_end : Bool) → old.block ≡ o → IsSound old → Some_answer (EndsBlock o old has_end)
+ends-some NoBlock old has_end is h = (Nothing, old, (refl, refl), h)
+ends-some (Claimed f lines) old has_end is h =
+    let built : old.built ≡ true = subst (λ o. IsBehindBuild o old.built) is h.claims in
+    judges-some old f (evidence_of old.problem.field (letters_of old) lines has_end) h built (read-evidence old lines has_end h built)
+ends-some (Refused text) old has_end is h = (RefusedLine text, (tell (RefusedLine text) (shut old)).1, refl, record { problem = h.problem; accepted = h.accepted; claims = tt })
+
+inside-sound : (o : Open) (old : State) (line : List ℕ) → old.block ≡ o → IsSound old → IsSound (inside o old line)
+inside-sound NoBlock old line is h = h
+inside-sound (Claimed f lines) old line is h = record { problem = h.problem; accepted = h.accepted; claims = subst (λ o. IsBehindBuild o old.built) is h.claims }
+inside-sound (Refused text) old line is h = h
+
+of_block-some : (ends : Bool) (old : State) (line : List ℕ) → IsSound old → Some_answer (OfBlock ends old line)
+of_block-some true old line h = ends-some old.block old true refl h
+of_block-some false old line h = (Nothing, inside old.block old line, (refl, refl), inside-sound old.block old line refl h)
+
+in-some : (o : Open) (old : State) (line : List ℕ) → IsSound old → Some_answer (AnswersIn o old line)
+in-some NoBlock old line h = ((command old line).0, (command old line).1, refl, command-sound old line h)
+in-some (Claimed f lines) old line h = of_block-some (is_end line) old line h
+in-some (Refused text) old line h = of_block-some (is_end line) old line h
+
+line-some : (closed : Bool) (old : State) (line : List ℕ) → IsSound old → Some_answer (AnswersLine closed old line)
+line-some true old line h = (Nothing, old, (refl, refl), h)
+line-some false old line h = in-some old.block old line h
+
+-- each line has an answer in a sound state, and leads to a sound one
+pub step-some : (old : State) (line : List ℕ) → IsSound old → (text : List ℕ) × (new : State) × Step old line text new × IsSound new
+step-some old line h =
+    let a = line-some old.closed old line h in
+    (text_of a.0, a.1, record { reply = a.0; answers = a.2; told = refl }, a.3)
+
+end-some : (closed : Bool) (old : State) → IsSound old → Some_answer (AnswersEnd closed old)
+end-some true old h = (Nothing, old, (refl, refl), h)
+end-some false old h = ends-some old.block old false refl h
+
+-- the end of the lines has an answer in a sound state
+pub finish-some : (old : State) → IsSound old → (text : List ℕ) × (new : State) × Finish old text new
+finish-some old h =
+    let a = end-some old.closed old h in
+    (text_of a.0, a.1, record { reply = a.0; answers = a.2; told = refl })
+
+-- ---- each step leads to a sound state
+
+judges-sound : (old new : State) (f : Poly) (given : Result block.Evidence block.Fault) (reply : Reply) → IsSound old → Judges old f given reply new → IsSound new
+judges-sound old new f given reply h j =
+    subst (λ (s : State). IsSound s) (sym (ap (λ r. r.1) j.told)) (record { problem = h.problem; accepted = h.accepted; claims = tt })
+
+ends-sound : (o : Open) (old new : State) (has_end : Bool) (reply : Reply) → IsSound old → EndsBlock o old has_end reply new → IsSound new
+ends-sound NoBlock old new has_end reply h e = subst (λ (s : State). IsSound s) (sym e.1) h
+ends-sound (Claimed f lines) old new has_end reply h e = judges-sound old new f (evidence_of old.problem.field (letters_of old) lines has_end) reply h e
+ends-sound (Refused text) old new has_end reply h e =
+    subst (λ (s : State). IsSound s) (sym (ap (λ r. r.1) e)) (record { problem = h.problem; accepted = h.accepted; claims = tt })
+
+of_block-sound : (ends : Bool) (old new : State) (line : List ℕ) (reply : Reply) → IsSound old → OfBlock ends old line reply new → IsSound new
+of_block-sound true old new line reply h e = ends-sound old.block old new true reply h e
+of_block-sound false old new line reply h e = subst (λ (s : State). IsSound s) (sym e.1) (inside-sound old.block old line refl h)
+
+in-sound : (o : Open) (old new : State) (line : List ℕ) (reply : Reply) → IsSound old → AnswersIn o old line reply new → IsSound new
+in-sound NoBlock old new line reply h e = subst (λ (s : State). IsSound s) (sym (ap (λ r. r.1) e)) (command-sound old line h)
+in-sound (Claimed f lines) old new line reply h e = of_block-sound (is_end line) old new line reply h e
+in-sound (Refused text) old new line reply h e = of_block-sound (is_end line) old new line reply h e
+
+line-sound : (closed : Bool) (old new : State) (line : List ℕ) (reply : Reply) → IsSound old → AnswersLine closed old line reply new → IsSound new
+line-sound true old new line reply h e = subst (λ (s : State). IsSound s) (sym e.1) h
+line-sound false old new line reply h e = in-sound old.block old new line reply h e
+
+pub step-sound : (old new : State) (line text : List ℕ) → IsSound old → Step old line text new → IsSound new
+step-sound old new line text h s = line-sound old.closed old new line s.reply h s.answers
+
+pub sound-start : IsSound start
+unfolding is_in_table primes
+sound-start = record { problem = record { field = refl; named = refl; homogeneous = tt }; accepted = λ b. absurd (cc); claims = tt }

@@ -1,16 +1,20 @@
--- A run between two lines, and what one line does.
-use Rattle.std.specs.Prelude.{◌≡◌, ℕ, ◌+◌, ◌^◌, false, List, ◌++◌, length, Option, Some}
+-- A run between two turns, and what one turn does.
+use Rattle.std.specs.Prelude.{◌≡◌, ℕ, ◌+◌, ◌<◌, ◌≤◌, ◌^◌, false, List, [], length, Option, Some}
 use Rattle.std.specs.Io.KnownBytes.{Consumes, Appends}
-use Rattle.alb_io.specs.Reader.{Reader, Reads, IsFirst}
+use Rattle.alb_io.specs.Reader.{Reader, Reads}
 use Rattle.alb_io.specs.Reading.{Reading}
 use Rattle.alb_io.specs.declared.step.LineStep.{LineStep}
 use Rattle.alb_io.specs.declared.step.LineStep.TheVariants as step
-use Rattle.alb_top.specs.Runs.{Run}
-use Rattle.alb_top.specs.Script.{State, start, Step, answer_to}
-use Rattle.alb_top.specs.Outcome.{Writes}
-use Rattle.alb_top.specs.declared.run.Taken.{Taken}
-use Rattle.alb_top.specs.declared.run.Taken.TheVariants as took
 use Rattle.alb_io.specs.declared.status.Status.{Status}
+use Rattle.alb_evidence.specs.Reads.{ReadsLine, ReadsLines}
+use Rattle.alb_poly.specs.Poly.{Poly}
+use Rattle.alb_top.specs.Runs.{Run}
+use Rattle.alb_top.specs.Script.{State, Reply, Claimed, Refused, start, Step, EndsBlock, text_of}
+use Rattle.alb_top.specs.View.{answer, state, IsScript, IsAnswer, AsksFor}
+use Rattle.alb_top.specs.Outcome.{Writes}
+use Rattle.alb_top.specs.declared.script.Asks.{Asks}
+use Rattle.alb_top.specs.declared.turn.Taken.{Taken}
+use Rattle.alb_top.specs.declared.turn.Taken.TheVariants as took
 
 -- the lines so far are answered
 pub record Going (reader : Reader) (script : State) (first now before after : Option (List ℕ)) : Type 0 where
@@ -22,20 +26,65 @@ pub record Going (reader : Reader) (script : State) (first now before after : Op
   pub run : Run Step start lines text script
   pub room : reader.room + length taken ≡ 2 ^ 40
 
--- a line was read, whole or too long
-pub record ReadsLine (old new : Reader) (before now : Option (List ℕ)) (line : List ℕ) : Type 0 where
-  pub answer : LineStep
-  pub reads : Reads answer old new before now
-  pub is_first : IsFirst line (old.held ++ reads.got) new.held new.at_end
+-- lines were read and answered, and the last of them by this
+pub record AnswersLines (old new : Reader) (script next : State) (before now : Option (List ℕ)) (reply : Reply) : Type 0 where
+  pub lines : List (List ℕ)
+  pub reads : ReadsLines lines old new before now
+  pub run : Run Step script lines (text_of reply) next
   pub running : new.ended ≡ false
+  pub fewer : new.room + length new.held < old.room + length old.held
 
--- one call of the reader, and the answer to its line
-abbrev pub TakesLine : Taken → Reader → Reader → State → State → Option (List ℕ) → Option (List ℕ) → Type 0
-TakesLine (took.Reply reply) old new script next before now = (line : List ℕ) × ReadsLine old new before now line × ((reply, next) ≡ answer_to script line)
-TakesLine took.NoMemory old new script next before now = (line : List ℕ) × ReadsLine old new before now line × (next ≡ script)
-TakesLine took.End old new script next before now = Reads step.End old new before now × (next ≡ script)
-TakesLine took.ReadFault old new script next before now = Reads step.ReadFault old new before now × (next ≡ script)
-TakesLine took.InputLimit old new script next before now = Reads step.InputLimit old new before now × (next ≡ script)
+-- lines were read, which ask for no answer, and then this was answered in place of a line
+pub record Pauses (answer : LineStep) (old new : Reader) (script next : State) (before now : Option (List ℕ)) : Type 0 where
+  pub lines : List (List ℕ)
+  pub last : Reader
+  pub between : Option (List ℕ)
+  pub inside : ReadsLines lines old last before between
+  pub run : Run Step script lines [] next
+  pub breaks : Reads answer last new between now
+  pub runs : next.closed ≡ false
+
+-- the same with the end of the lines, and the answer to it
+pub record EndsLines (old new : Reader) (script next : State) (before now : Option (List ℕ)) (reply : Reply) : Type 0 where
+  pub mid : State
+  pub pauses : Pauses step.End old new script mid before now
+  pub ends : EndsBlock mid.block mid false reply next
+
+-- lines were read
+pub record Gets (old new : Reader) (before now : Option (List ℕ)) : Type 0 where
+  pub lines : List (List ℕ)
+  pub reads : ReadsLines lines old new before now
+
+-- there was no answer to a line, for want of one, or of memory
+abbrev pub Stops : LineStep → Reader → Reader → State → Option (List ℕ) → Option (List ℕ) → Type 0
+Stops answer old new script before now = (mid : State) × Pauses answer old new script mid before now
+
+-- one turn: a line and its answer, where it is a claim with its block; or the end of the input
+abbrev pub TakesTurn : Taken → Reader → Reader → State → Option (List ℕ) → Option (List ℕ) → Type 0
+TakesTurn (took.Reply r next) old new script before now = AnswersLines old new script (state next) before now (answer r)
+TakesTurn (took.Last r next) old new script before now = EndsLines old new script (state next) before now (answer r)
+TakesTurn took.ReadFault old new script before now = Stops step.ReadFault old new script before now
+TakesTurn took.InputLimit old new script before now = Stops step.InputLimit old new script before now
+TakesTurn took.NoMemory old new script before now = Gets old new before now
+
+-- the same behind a line that was read before and asks for this
+abbrev pub TakesAsked : Taken → Asks → Reader → Reader → State → Option (List ℕ) → Option (List ℕ) → Type 0
+TakesAsked taken asks old new script before now =
+    (first : Reader) (was : Option (List ℕ)) (line : List ℕ) → ReadsLine first old was before line → length line ≤ 65536 → AsksFor asks script line → TakesTurn taken first new script was now
+
+-- an answer can be written, and the script behind it is one
+abbrev pub IsFine : Taken → Type 0
+IsFine (took.Reply r next) = IsAnswer r × IsScript next
+IsFine (took.Last r next) = IsAnswer r
+IsFine other = Unit {0}
+
+-- behind the line of a claim
+abbrev pub claimed : Poly → State → State
+claimed f s = record s { block = Claimed f [] }
+
+-- behind the line of a claim that is refused
+abbrev pub refused : List ℕ → State → State
+refused text s = record s { block = Refused text }
 
 -- what a run did: the bytes that it took, the text that it appended, and what the text is to the input
 pub record Outcome (status : Status) (first now before after : Option (List ℕ)) : Type 0 where

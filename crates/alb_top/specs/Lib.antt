@@ -1,11 +1,8 @@
+pub mod Verdict
 pub mod Script
-pub mod Words
-pub mod Pieces
+pub mod Sound
 pub mod View
-pub mod Readings
-pub mod Answered
 pub mod Forms
 pub mod Runs
 pub mod Outcome
 pub mod Going
-pub mod Sound

@@ -3,7 +3,6 @@ use Rattle.std.specs.Prelude.{◌≡◌, ◌⊎◌, ℕ, ◌^◌, Bool, true, fa
 use Rattle.alb_io.specs.Lines.{lines_of, whole_lines}
 use Rattle.alb_top.specs.Runs.{Run, Answers}
 use Rattle.alb_top.specs.Script.{State, start, Step, Finish}
-use Rattle.alb_top.specs.declared.reply.Place.TheVariants as place
 use Rattle.alb_io.specs.declared.status.Status.{Status}
 use Rattle.alb_io.specs.declared.status.Status.TheVariants as status
 
@@ -17,7 +16,7 @@ pub record IsTranscript (input text : List ℕ) (clean : Bool) : Type 0 where
 pub record AnswersSoFar (taken text : List ℕ) : Type 0 where
   pub last : State
   pub run : Run Step start (whole_lines taken) text last
-  pub runs : last.place ≡ place.Closed → ⊥
+  pub runs : last.closed ≡ false
 
 -- the text is a front of the transcript of the input
 pub record IsFront (input text : List ℕ) : Type 0 where
@@ -32,7 +31,7 @@ pub record EndsInside (input text : List ℕ) : Type 0 where
   pub last : State
   pub cut : lines_of input ≡ lines ++ more
   pub run : Run Step start lines text last
-  pub closed : last.place ≡ place.Closed
+  pub closed : last.closed ≡ true
 
 -- the input was read to its end, or to the line that ends the script
 abbrev pub IsRead : List ℕ → List ℕ → List ℕ → Type 0

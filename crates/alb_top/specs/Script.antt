@@ -1,162 +1,208 @@
--- The script of a check in its first form: what each place of it asks for next, and what is answered.
-use Rattle.std.specs.Prelude.{◌≡◌, ℕ, ◌+◌, Bool, true, false, ◌&&◌, List, [], ◌∷◌, ◌++◌, length, map, drop, sum, Option, None, Some, Result, Ok, Err, nat_lt, nat_le, if◌then◌else◌, decimal, codes, option_map, is_none}
-use Rattle.std.specs.List.{list_all}
+-- The script of a check: what has been said so far, and what each line is answered.
+use Rattle.std.specs.Prelude.{◌≡◌, ℕ, ◌+◌, Bool, true, false, ◌&&◌, List, [], ◌∷◌, ◌++◌, length, map, drop, sum, Option, None, Some, Result, Ok, Err, nat_eq, nat_lt, if◌then◌else◌, decimal, codes}
+use Rattle.std.specs.List.{starts_with}
+use Rattle.alb_lex.specs.Lexing.{is_blank}
 use Rattle.alb_mono.specs.Letters.{alphabet}
-use Rattle.alb_lex.specs.Lexing.{tokens_from}
-use Rattle.alb_lex.specs.declared.token.Token.{Token}
-use Rattle.alb_lex.specs.declared.error.LexError.{LexError}
-use Rattle.alb_lex.specs.declared.error.LexError.TheVariants as lex
-use Rattle.alb_syntax.specs.Reading.{denoted}
-use Rattle.alb_syntax.specs.declared.error.SyntaxError.{SyntaxError}
-use Rattle.alb_syntax.specs.declared.error.SyntaxError.TheVariants as syntax
 use Rattle.alb_poly.specs.Poly.{Poly}
-use Rattle.alb_poly.specs.Normal.{normal}
-use Rattle.alb_poly.specs.Instance.{Form, linearization}
-use Rattle.alb_poly.specs.Textbook.{IsTextConsequence}
-use Rattle.alb_linear.specs.Identity.{leading_type, identity_fault}
-use Rattle.alb_deriv.specs.Derivation.{Line, claim_fault}
-use Rattle.alb_top.specs.Words.{after, is_word, generators_of, line_of}
-use Rattle.alb_top.specs.declared.reply.Place.{Place}
-use Rattle.alb_top.specs.declared.reply.Place.TheVariants as place
-use Rattle.alb_top.specs.declared.reply.Reply.{Reply}
-use Rattle.alb_top.specs.declared.reply.Reply.TheVariants as reply
+use Rattle.alb_poly.specs.Instance.{Form}
+use Rattle.alb_print.specs.Text.{mono_text}
+use Rattle.alb_linear.specs.Identity as identity
+use Rattle.alb_problem.specs.Generators.{letters, counts}
+use Rattle.alb_problem.specs.Builder.{Builder, linear_form}
+use Rattle.alb_problem.specs.Refusals as refusals
+use Rattle.alb_script.specs.Asked.{Asked, Field, Generators, Identity, Build, Claim, Quit, asked}
+use Rattle.alb_script.specs.Refusals.{line_of, command_text}
+use Rattle.alb_script.specs.declared.form.Form.TheVariants.{Check}
+use Rattle.alb_script.specs.declared.error.CommandError.{CommandError}
+use Rattle.alb_evidence.specs.Words.{ends_word, is_end}
+use Rattle.alb_evidence.specs.Block.{Evidence, Fault, evidence_of}
+use Rattle.alb_top.specs.Verdict.{Verdict, IsVerdict, is_accepted, verdict_text, IsJustified}
 
--- How far a script has come: what it asks for next; the generators' letters and how often each may occur; the identities,
--- and their linearizations; the claim and the lines of its derivation; and whether all was accepted.
+-- What the lines of an open block stand behind: nothing, where no block is open; a claim, with the lines so far; or a claim
+-- whose line is refused, with the refusal.
+pub data Open : Type 0 where
+  NoBlock : Open
+  Claimed : Poly → List (List ℕ) → Open
+  Refused : List ℕ → Open
+
+-- How far a script has come: the field, the generators and the identities that were accepted; whether `build` was; the open
+-- block; whether the script has ended, by `quit`; and whether no line was refused and no evidence rejected.
 pub record State : Type 0 where
-  pub place : Place
-  pub letters : List ℕ
-  pub target : List ℕ
-  pub identities : List Poly
-  pub forms : List Form
-  pub claim : Poly
-  pub lines : List Line
+  pub problem : Builder
+  pub built : Bool
+  pub block : Open
+  pub closed : Bool
   pub clean : Bool
 
 abbrev pub start : State
-start = record { place = place.Generators; letters = []; target = []; identities = []; forms = []; claim = []; lines = []; clean = true }
+start = record { problem = record { field = 251; letters = []; counts = []; identities = [] }; built = false; block = NoBlock; closed = false; clean = true }
 
--- ---- polynomials
+-- the linearized identities
+abbrev pub forms_of : Builder → List Form
+forms_of b = map (linear_form b.field) b.identities
 
--- a refusal's number and place
-abbrev pub Refusal : Type 0
-Refusal = ℕ × ℕ
+-- ---- answers
 
-abbrev pub lex_refusal : LexError → Refusal
-lex_refusal (lex.BadByte at) = (10, at)
-lex_refusal (lex.NumberTooLong at) = (11, at)
-lex_refusal lex.NoMemory = (0, 0)
-
-abbrev pub syntax_refusal : SyntaxError → Refusal
-syntax_refusal (syntax.Expected at) = (20, at)
-syntax_refusal (syntax.UnknownLetter at) = (21, at)
-syntax_refusal (syntax.TooDeep at) = (22, at)
-syntax_refusal (syntax.TooManyTerms at) = (23, at)
-syntax_refusal (syntax.TooHigh at) = (24, at)
-syntax_refusal syntax.NoMemory = (0, 0)
-
-abbrev pub or_syntax : Result Poly SyntaxError → Result Poly Refusal
-or_syntax (Ok f) = Ok f
-or_syntax (Err e) = Err (syntax_refusal e)
-
-abbrev pub or_lex : List ℕ → ℕ → Result (List Token) LexError → Result Poly Refusal
-or_lex letters end (Ok ts) = or_syntax (denoted (record { field = 251; letters = letters; end = end }) ts)
-or_lex letters end (Err e) = Err (lex_refusal e)
-
--- the polynomial that a line has from its byte `from` on, over these letters, or the first fault
-abbrev pub poly_at : List ℕ → ℕ → List ℕ → Result Poly Refusal
-poly_at letters from line = or_lex letters (length line + 1) (tokens_from false (from + 1) (drop from line))
-
--- ---- the answers
-
-abbrev pub close : State → State
-close s = record s { place = place.Closed; clean = false }
-
--- a homogeneous identity in which each variable stands once in each term
-abbrev pub is_multilinear : Poly → Bool
-is_multilinear f = is_none (identity_fault f) && list_all (λ n. nat_le n 1) (leading_type f)
-
-abbrev pub linear_form : Poly → Form
-linear_form f = record { degree = sum (leading_type f); terms = normal 251 (linearization (leading_type f) f).terms }
-
--- a polynomial that has a fault is refused, and ends the script
-abbrev pub refused_at : ℕ → ℕ → State → Option (Reply × State)
-refused_at code at s = Some (reply.RefusedAt code at, close s)
-
-abbrev pub identity_of : State → Result Poly Refusal → Option (Reply × State)
-identity_of s (Err e) = refused_at e.0 e.1 s
-identity_of s (Ok f) =
-    if is_multilinear f then Some (reply.Identity (length s.forms + 1), record s { identities = s.identities ++ f ∷ []; forms = s.forms ++ linear_form f ∷ [] }) else None
-
-abbrev pub claim_of : State → Result Poly Refusal → Option (Reply × State)
-claim_of s (Err e) = refused_at e.0 e.1 s
-claim_of s (Ok f) = Some (reply.Nothing, record s { place = place.Derivation; claim = f })
-
--- what follows the word is judged by `read`
-abbrev pub behind : List ℕ → List ℕ → Option (Reply × State) → Option (Reply × State)
-behind word line read = if is_none (after word line) then None else read
-
-abbrev pub judged : Bool → State → Reply × State
-judged true s = (reply.Accepted, record s { place = place.InputEnd; clean = true })
-judged false s = (reply.Rejected, record s { place = place.InputEnd; clean = false })
-
--- what is answered to a line that the place asks for
-abbrev pub asked : Place → State → List ℕ → Option (Reply × State)
-asked place.Generators s line =
-    option_map (λ ps. (reply.Ok, record s { place = place.Identities; letters = map (λ q. q.1) ps; target = map (λ q. q.0) ps })) (generators_of line)
-asked place.Identities s line =
-    if is_word (codes "build") line && nat_lt 0 (length s.forms) then Some (reply.Ready, record s { place = place.Claim })
-    else if nat_lt (length s.forms) 32 then behind (codes "identity ") line (identity_of s (poly_at alphabet 9 line))
-    else None
-asked place.Claim s line = behind (codes "claim ") line (claim_of s (poly_at s.letters 6 line))
-asked place.Derivation s line = if is_word (codes "derivation") line then Some (reply.Nothing, record s { place = place.Block }) else None
-asked place.Block s line =
-    if is_word (codes "end") line then Some (judged (is_none (claim_fault 251 s.target s.forms s.claim s.lines)) s)
-    else option_map (λ l. (reply.Nothing, record s { lines = s.lines ++ l ∷ [] })) (line_of s.letters (length s.lines + 1) line)
-asked place.InputEnd s line = None
-asked place.Closed s line = None
-
--- a line that is not asked for is refused, and ends the script
-abbrev pub or_refused : State → Option (Reply × State) → Reply × State
-or_refused s None = (reply.Refused, close s)
-or_refused s (Some answer) = answer
-
--- each line at a place; behind the end of the script a line is not read
-abbrev pub answer_at : Place → State → List ℕ → Reply × State
-answer_at place.Closed s line = (reply.Nothing, s)
-answer_at other s line = or_refused s (if nat_lt 65536 (length line) then None else asked other s line)
-
-abbrev pub answer_to : State → List ℕ → Reply × State
-answer_to s line = answer_at s.place s line
-
--- the end of the lines
-abbrev pub end_at : Place → State → Reply × State
-end_at place.InputEnd s = (reply.Nothing, record s { place = place.Closed })
-end_at place.Closed s = (reply.Nothing, s)
-end_at other s = or_refused s None
-
-abbrev pub answer_to_end : State → Reply × State
-answer_to_end s = end_at s.place s
+pub data Reply : Type 0 where
+  Nothing : Reply
+  Accepted : Reply
+  NumberedIdentity : ℕ → Reply
+  Ready : Reply
+  RefusedLine : List ℕ → Reply
+  Judged : Verdict → Reply
 
 abbrev pub text_of : Reply → List ℕ
-text_of reply.Nothing = []
-text_of reply.Ok = codes "ok\n"
-text_of (reply.Identity k) = codes "identity " ++ decimal k ++ codes "\n"
-text_of reply.Ready = codes "ready\n"
-text_of reply.Accepted = codes "accepted zero\n"
-text_of reply.Rejected = codes "rejected\n"
-text_of (reply.RefusedAt code at) = codes "refused " ++ decimal code ++ (codes " at " ++ decimal at ++ codes "\n")
-text_of reply.Refused = codes "refused 90\n"
+text_of Nothing = []
+text_of Accepted = codes "ok\n"
+text_of (NumberedIdentity k) = line_of (codes "identity ") (decimal k)
+text_of Ready = codes "ready\n"
+text_of (RefusedLine text) = text
+text_of (Judged v) = verdict_text v
 
--- `accepted zero` stands only where the claim is a consequence of the identities, in the textbook's sense: it equals a sum of
--- multiples of values of the identities, at any polynomials, in contexts
-abbrev pub Justified : Reply → State → Type 0
-Justified reply.Accepted s = IsTextConsequence 251 s.identities s.claim
-Justified other s = Unit {0}
+-- ---- refusals of the problem
+
+abbrev pub fault_text : identity.Fault → List ℕ
+fault_text identity.Zero = codes "refused 30\n"
+fault_text (identity.NotHomogeneous m) = line_of (codes "refused 31: ") (mono_text alphabet false m)
+fault_text identity.DegreeOne = codes "refused 32\n"
+fault_text identity.DegreeOver8 = codes "refused 33\n"
+
+abbrev pub stated_text : refusals.Refusal → List ℕ
+stated_text refusals.NotInTable = codes "refused 1\n"
+stated_text refusals.FieldAfterIdentity = codes "refused 40\n"
+stated_text refusals.GeneratorsTwice = codes "refused 45\n"
+stated_text (refusals.BadGenerators place) = line_of (codes "refused 41 at ") (decimal place)
+stated_text refusals.TooManyIdentities = codes "refused 42\n"
+stated_text (refusals.NoIdentity fault) = fault_text fault
+stated_text (refusals.TooManyLinear n) = line_of (codes "refused 34: ") (decimal n)
+stated_text refusals.NoGenerators = codes "refused 43\n"
+stated_text refusals.FieldTooSmall = codes "refused 44\n"
+
+-- a line was refused, or its evidence rejected
+abbrev pub is_clean : Reply → Bool
+is_clean (RefusedLine text) = false
+is_clean (Judged v) = is_accepted v
+is_clean other = true
+
+-- a script stays clean as long as its answers are
+abbrev pub tell : Reply → State → Reply × State
+tell reply s = (reply, record s { clean = is_clean reply && s.clean })
+
+-- ---- commands
+
+-- the answer to what is accepted and the problem behind it; or the refusal, which leaves the problem as it was
+abbrev pub unless : Option refusals.Refusal → Reply → Builder → Builder → Reply × Builder
+unless None reply new old = (reply, new)
+unless (Some r) reply new old = (RefusedLine (stated_text r), old)
+
+-- what a statement about the problem is answered, and the problem behind it
+abbrev pub stated : Builder → Asked → Reply × Builder
+stated b (Field p) = unless (refusals.field_refusal b p) Accepted (record { field = p; letters = b.letters; counts = b.counts; identities = b.identities }) b
+stated b (Generators ts end) =
+    unless (refusals.generators_refusal b ts end) Accepted (record { field = b.field; letters = letters ts; counts = counts ts; identities = b.identities }) b
+stated b (Identity f) =
+    unless (refusals.identity_refusal b f) (NumberedIdentity (length b.identities + 1)) (record { field = b.field; letters = b.letters; counts = b.counts; identities = b.identities ++ f ∷ [] }) b
+stated b other = (Nothing, b)
+
+abbrev pub with_problem : State → Reply × Builder → Reply × State
+with_problem s answer = tell answer.0 (record s { problem = answer.1 })
+
+-- `build`
+abbrev pub built_unless : Option refusals.Refusal → State → Reply × State
+built_unless None s = tell Ready (record s { built = true })
+built_unless (Some r) s = tell (RefusedLine (stated_text r)) s
+
+-- what a command is answered, and what the script has come to behind it
+abbrev pub obey : State → Asked → Reply × State
+obey s Build = built_unless (refusals.finish_refusal s.problem) s
+obey s (Claim f) = tell Nothing (record s { block = Claimed f [] })
+obey s Quit = tell Nothing (record s { closed = true })
+obey s statement = with_problem s (stated s.problem statement)
+
+-- the letters of the generators, by which claims are read
+abbrev pub letters_of : State → List ℕ
+letters_of s = if s.built then s.problem.letters else []
+
+abbrev pub total_of : State → ℕ
+total_of s = if s.built then sum s.problem.counts else 0
+
+-- the first word is `claim`
+abbrev pub begins_claim : List ℕ → Bool
+begins_claim [] = false
+begins_claim (b ∷ bs) =
+    if is_blank b then begins_claim bs else starts_with nat_eq (b ∷ bs) (codes "claim") && ends_word (drop 5 (b ∷ bs))
+
+-- a line that is no command here; the block of a refused claim comes before its refusal
+abbrev pub refuse_line : State → List ℕ → CommandError → Reply × State
+refuse_line s line e = if begins_claim line then tell Nothing (record s { block = Refused (command_text e) }) else tell (RefusedLine (command_text e)) s
+
+abbrev pub obey_line : State → List ℕ → Result Asked CommandError → Reply × State
+obey_line s line (Ok a) = obey s a
+obey_line s line (Err e) = refuse_line s line e
+
+-- what a line asks for, or its first fault
+abbrev pub asked_of : State → List ℕ → Result Asked CommandError
+asked_of s line = asked Check s.built (total_of s) s.problem.field (letters_of s) line
+
+-- a line outside all blocks
+abbrev pub command : State → List ℕ → Reply × State
+command s line =
+    if nat_lt 65536 (length line) then tell (RefusedLine (codes "refused 84\n")) s
+    else obey_line s line (asked_of s line)
+
+-- ---- blocks
+
+-- no block is open
+abbrev pub shut : State → State
+shut s = record s { block = NoBlock }
+
+-- the evidence for a claim is judged
+pub record Judges (old : State) (claim : Poly) (given : Result Evidence Fault) (reply : Reply) (new : State) : Type 0 where
+  pub verdict : Verdict
+  pub judged : IsVerdict old.problem.field old.problem.counts (forms_of old.problem) claim given verdict
+  pub told : (reply, new) ≡ tell (Judged verdict) (shut old)
+  pub justified : IsJustified old.problem.field old.problem.identities claim verdict
+
+-- the end of a block answers its claim: its line `end`, or the end of the input
+abbrev pub EndsBlock : Open → State → Bool → Reply → State → Type 0
+EndsBlock NoBlock old has_end reply new = (reply ≡ Nothing) × (new ≡ old)
+EndsBlock (Claimed f lines) old has_end reply new = Judges old f (evidence_of old.problem.field (letters_of old) lines has_end) reply new
+EndsBlock (Refused text) old has_end reply new = (reply, new) ≡ tell (RefusedLine text) (shut old)
+
+-- a line inside a block that does not end it
+abbrev pub inside : Open → State → List ℕ → State
+inside NoBlock s line = s
+inside (Claimed f lines) s line = record s { block = Claimed f (lines ++ line ∷ []) }
+inside (Refused text) s line = s
+
+-- a line of a block
+abbrev pub OfBlock : Bool → State → List ℕ → Reply → State → Type 0
+OfBlock true old line reply new = EndsBlock old.block old true reply new
+OfBlock false old line reply new = (reply ≡ Nothing) × (new ≡ inside old.block old line)
+
+-- ---- the transcript
+
+abbrev pub AnswersIn : Open → State → List ℕ → Reply → State → Type 0
+AnswersIn NoBlock old line reply new = (reply, new) ≡ command old line
+AnswersIn other old line reply new = OfBlock (is_end line) old line reply new
+
+-- what a line is answered; behind the end of the script it is not read
+abbrev pub AnswersLine : Bool → State → List ℕ → Reply → State → Type 0
+AnswersLine true old line reply new = (reply ≡ Nothing) × (new ≡ old)
+AnswersLine false old line reply new = AnswersIn old.block old line reply new
 
 -- one line of the transcript
-abbrev pub Step : State → List ℕ → List ℕ → State → Type 0
-Step old line text new = (text ≡ text_of (answer_to old line).0) × (new ≡ (answer_to old line).1) × Justified (answer_to old line).0 new
+pub record Step (old : State) (line text : List ℕ) (new : State) : Type 0 where
+  pub reply : Reply
+  pub answers : AnswersLine old.closed old line reply new
+  pub told : text ≡ text_of reply
 
-abbrev pub Finish : State → List ℕ → State → Type 0
-Finish old text new = (text ≡ text_of (answer_to_end old).0) × (new ≡ (answer_to_end old).1)
+-- the end of the lines; behind the end of the script it asks for no answer
+abbrev pub AnswersEnd : Bool → State → Reply → State → Type 0
+AnswersEnd true old reply new = (reply ≡ Nothing) × (new ≡ old)
+AnswersEnd false old reply new = EndsBlock old.block old false reply new
+
+pub record Finish (old : State) (text : List ℕ) (new : State) : Type 0 where
+  pub reply : Reply
+  pub answers : AnswersEnd old.closed old reply new
+  pub told : text ≡ text_of reply

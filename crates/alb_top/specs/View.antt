@@ -1,21 +1,183 @@
--- What contracts see of a script.
-use Rattle.std.specs.Prelude.{◌≡◌, [], length, map, All}
-use Rattle.alb_poly.specs.Poly.{AreResidues}
+-- What contracts see of scripts and answers.
+use Rattle.std.specs.Prelude.{◌≡◌, ℕ, Bool, true, false, List, length, codes, Result, Ok, Err}
+use Rattle.alb_problem.specs.Builder.{Builder}
+use Rattle.alb_problem.specs.Problem.{problem, IsAccepted}
+use Rattle.alb_problem.specs.declared.problem.Problem.{Problem}
+use Rattle.alb_problem.specs.declared.error.ProblemError.{ProblemError}
+use Rattle.alb_problem.specs.declared.error.ProblemError.TheVariants as problem_error
+use Rattle.alb_mono.specs.declared.error.NoMemory.{NoMemory}
 use Rattle.alb_poly.specs.Rules.{forms}
-use Rattle.alb_deriv.specs.Views.{line, IsLine}
-use Rattle.alb_deriv.specs.Answers.{AreRules}
-use Rattle.alb_top.specs.Script.{State}
-use Rattle.alb_top.specs.declared.reply.Place.TheVariants as place
+use Rattle.alb_deriv.specs.Derivation.{Line}
+use Rattle.alb_check.specs.Raw.{Raw}
+use Rattle.alb_evidence.specs.Block as block
+use Rattle.alb_evidence.specs.Views.{evidence}
+use Rattle.alb_evidence.specs.declared.evidence.Evidence.{Evidence}
+use Rattle.alb_evidence.specs.declared.error.EvidenceError.{EvidenceError}
+use Rattle.alb_evidence.specs.declared.error.EvidenceError.TheVariants as given
+use Rattle.alb_script.specs.Asked.{Asked, Blank, Field, Generators, Identity, Build, Claim, Quit, view, HasRead, IsRead}
+use Rattle.alb_script.specs.declared.command.Command.{Command}
+use Rattle.alb_script.specs.declared.command.Command.TheVariants as commands
+use Rattle.alb_script.specs.declared.error.CommandError.{CommandError}
+use Rattle.alb_script.specs.declared.error.CommandError.TheVariants as command_error
+use Rattle.alb_script.specs.declared.refusal.Refusal.{Refusal}
+use Rattle.alb_script.specs.declared.refusal.Refusal.TheVariants as refusal
+use Rattle.alb_script.specs.Refusals.{refusal_text, is_memory, IsOverAlphabet}
+use Rattle.alb_top.specs.Verdict as verdicts
+use Rattle.alb_top.specs.Verdict.{numbered, failure_text}
+use Rattle.alb_top.specs.Script as script
+use Rattle.alb_top.specs.Script.{State, NoBlock, letters_of, asked_of, begins_claim}
+use Rattle.alb_top.specs.declared.reply.Reply.{Reply}
+use Rattle.alb_top.specs.declared.reply.Reply.TheVariants as reply
+use Rattle.alb_top.specs.declared.reply.Verdict.{Verdict}
+use Rattle.alb_top.specs.declared.reply.Verdict.TheVariants as verdict
+use Rattle.alb_top.specs.declared.reply.Rejection.{Rejection}
+use Rattle.alb_top.specs.declared.reply.Rejection.TheVariants as rejection
+use Rattle.alb_poly.specs.Poly.{Poly}
+use Rattle.alb_top.specs.declared.judge.Judged.{Judged}
+use Rattle.alb_top.specs.declared.judge.Judged.TheVariants as judged
+use Rattle.alb_top.specs.declared.script.Asks.{Asks}
+use Rattle.alb_top.specs.declared.script.Asks.TheVariants as asks
 use Rattle.alb_top.specs.declared.script.Script.{Script}
+use Rattle.alb_top.specs.declared.script.Stage.{Stage}
+use Rattle.alb_top.specs.declared.script.Stage.TheVariants as stage
 
+-- ---- answers
+
+abbrev pub rejection_text : Rejection → List ℕ
+rejection_text (rejection.BadLine k) = numbered (codes "rejected 70 line ") k
+rejection_text (rejection.BadNumber k) = numbered (codes "rejected 71 line ") k
+rejection_text (rejection.BadIdentity k) = numbered (codes "rejected 50 line ") k
+rejection_text (rejection.WrongCount k) = numbered (codes "rejected 51 line ") k
+rejection_text (rejection.LaterLine k) = numbered (codes "rejected 52 line ") k
+rejection_text (rejection.OutOfType k) = numbered (codes "rejected 53 line ") k
+rejection_text rejection.NotTheClaim = codes "rejected 54\n"
+rejection_text (rejection.BadShape rule) = numbered (codes "rejected 60 rule ") rule
+rejection_text (rejection.Fails i ks) = failure_text i ks.items
+rejection_text rejection.ValueZero = codes "rejected 62\n"
+
+abbrev pub judgement : Verdict → verdicts.Verdict
+judgement verdict.Zero = verdicts.AcceptedZero
+judgement verdict.NotZero = verdicts.AcceptedNotZero
+judgement (verdict.Rejected r) = verdicts.Rejected (rejection_text r)
+
+abbrev pub answer : Reply → script.Reply
+answer reply.Nothing = script.Nothing
+answer reply.Ok = script.Accepted
+answer (reply.Identity k) = script.NumberedIdentity k
+answer reply.Ready = script.Ready
+answer (reply.Refused r) = script.RefusedLine (refusal_text r)
+answer (reply.Judged v) = script.Judged (judgement v)
+
+-- a refusal is not want of memory, and its term is over the letters a to z
+pub record CanBeWritten (r : Refusal) : Type 0 where
+  pub memory : is_memory r ≡ false
+  pub known : IsOverAlphabet r
+
+abbrev pub IsAnswer : Reply → Type 0
+IsAnswer (reply.Refused r) = CanBeWritten r
+IsAnswer other = Unit {0}
+
+-- the answer to an error of the problem
+abbrev pub of_problem : ProblemError → Result Reply NoMemory
+of_problem problem_error.NoMemory = Err (record {})
+of_problem e = Ok (reply.Refused (refusal.Problem e))
+
+-- ---- judgements
+
+-- the verdict on what was read, for a claim `g` about an accepted problem
+abbrev pub IsVerdictOn : Problem → Poly → Result block.Evidence block.Fault → Verdict → Type 0
+IsVerdictOn q g read v = verdicts.IsVerdict q.rules.field q.rules.target (forms q.rules) g read (judgement v)
+
+-- the verdict on a table, unless memory ran out
+abbrev pub JudgesTable : Judged → Problem → Poly → Raw → Type 0
+JudgesTable (judged.Verdict v) q g t = IsVerdictOn q g (Ok (block.NotZero t)) v
+JudgesTable judged.NoMemory q g t = Unit {0}
+JudgesTable other q g t = ⊥
+
+-- the verdict on the lines of a derivation, unless memory ran out
+abbrev pub JudgesLines : Judged → Problem → Poly → List Line → Type 0
+JudgesLines (judged.Verdict v) q g lines = IsVerdictOn q g (Ok (block.Zero lines)) v
+JudgesLines judged.NoMemory q g lines = Unit {0}
+JudgesLines other q g lines = ⊥
+
+abbrev pub Judges : Judged → Problem → Poly → Result Evidence EvidenceError → Type 0
+Judges (judged.Verdict v) q g (Ok e) = IsVerdictOn q g (Ok (evidence e)) v
+Judges (judged.Verdict v) q g (Err (given.BadLine k)) = IsVerdictOn q g (Err (block.BadLine k)) v
+Judges (judged.Verdict v) q g (Err (given.BadNumber k)) = IsVerdictOn q g (Err (block.BadNumber k)) v
+Judges (judged.Verdict v) q g (Err other) = ⊥
+Judges judged.ReadFault q g read = read ≡ Err given.ReadFault
+Judges judged.InputLimit q g read = read ≡ Err given.InputLimit
+Judges judged.NoMemory q g (Ok e) = Unit {0}
+Judges judged.NoMemory q g (Err e) = e ≡ given.NoMemory
+
+-- ---- scripts
+
+-- what is said of the problem
+abbrev pub said : Stage → Builder
+said (stage.Stating b) = b
+said (stage.Asking q) = problem q
+
+abbrev pub is_asking : Stage → Bool
+is_asking (stage.Stating b) = false
+is_asking (stage.Asking q) = true
+
+-- between two turns no block is open
 abbrev pub state : Script → State
-state s = record { place = s.place; letters = s.letters; target = s.rules.target; identities = map (λ f. f.poly) s.identities.items; forms = forms s.rules; claim = s.claim; lines = map line s.lines.items; clean = s.clean }
+state s = record { problem = said s.stage; built = is_asking s.stage; block = NoBlock; closed = s.closed; clean = s.clean }
 
--- what is true of every script
-pub record IsScript (s : Script) : Type 0 where
-  pub field : s.rules.field ≡ 251
-  pub rules : AreRules 251 s.rules.target (forms s.rules)
-  pub letters : length s.letters ≡ length s.rules.target
-  pub lines : All (λ l. IsLine 251 (length s.rules.target) l) s.lines.items
-  pub claim : AreResidues 251 s.claim
-  pub early : s.place ≡ place.Generators → s.lines.items ≡ []
+abbrev pub IsStage : Stage → Type 0
+IsStage (stage.Stating b) = Unit {0}
+IsStage (stage.Asking q) = IsAccepted q
+
+abbrev pub IsScript : Script → Type 0
+IsScript s = IsStage s.stage
+
+-- ---- what may be asked for
+
+-- a statement about the problem
+abbrev pub IsStatement : Asked → Type 0
+IsStatement (Field p) = Unit {0}
+IsStatement (Generators ts end) = Unit {0}
+IsStatement (Identity f) = Unit {0}
+IsStatement other = ⊥
+
+-- statements and `build` stand before `build`, and claims behind it
+abbrev pub IsTimely : Bool → Asked → Type 0
+IsTimely built Blank = Unit {0}
+IsTimely built (Field p) = built ≡ false
+IsTimely built (Generators ts end) = built ≡ false
+IsTimely built (Identity f) = built ≡ false
+IsTimely built Build = built ≡ false
+IsTimely built (Claim f) = built ≡ true
+IsTimely built Quit = Unit {0}
+IsTimely built other = ⊥
+
+-- a command other than a claim
+abbrev pub IsOrder : Asked → Type 0
+IsOrder (Claim f) = ⊥
+IsOrder other = Unit {0}
+
+-- a line, outside all blocks, asks for this
+abbrev pub AsksFor : Asks → State → List ℕ → Type 0
+AsksFor (asks.Command c) s line = asked_of s line ≡ Ok (view c)
+AsksFor (asks.Claim f) s line = asked_of s line ≡ Ok (Claim f)
+AsksFor (asks.Refusal e) s line = (asked_of s line ≡ Err e) × (begins_claim line ≡ false)
+AsksFor (asks.RefusedClaim e) s line = (asked_of s line ≡ Err e) × (begins_claim line ≡ true)
+
+-- what is asked for may stand here, and is over the field and the letters; a refusal can be written
+abbrev pub MayBeAsked : Asks → State → Type 0
+MayBeAsked (asks.Command c) s = IsOrder (view c) × IsTimely s.built (view c) × HasRead s.problem.field (length (letters_of s)) c
+MayBeAsked (asks.Claim f) s = (s.built ≡ true) × IsRead s.problem.field (length (letters_of s)) f
+MayBeAsked (asks.Refusal e) s = CanBeWritten (refusal.Command e)
+MayBeAsked (asks.RefusedClaim e) s = CanBeWritten (refusal.Command e)
+
+-- a line that is no command here, unless memory ran out; the block of a claim follows
+abbrev pub of_command : Bool → CommandError → Result Asks NoMemory
+of_command is_claim command_error.NoMemory = Err (record {})
+of_command true e = Ok (asks.RefusedClaim e)
+of_command false e = Ok (asks.Refusal e)
+
+-- what a command asks for
+abbrev pub asks_of : Command → Asks
+asks_of (commands.Claim f) = asks.Claim f
+asks_of c = asks.Command c

@@ -1,14 +1,13 @@
 //! The top call of the program `albert`: words, an input and an output in, a status out.
 #![tactic(auto)]
 
-mod block;
-mod reading;
+mod judge;
 mod reply;
 mod run;
 mod script;
 #[cfg(test)]
 mod tests;
-mod words;
+mod turn;
 mod write;
 
 pub use run::run_albert;

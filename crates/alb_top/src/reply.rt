@@ -1,27 +1,77 @@
-/// What a script asks for next.
-#[derive(Clone, Copy, Debug, PartialEq, Eq)]
-pub enum Place {
-    Generators,
-    Identities,
-    Claim,
-    Derivation,
-    Block,
-    InputEnd,
-    Closed,
+ghost use Rattle.std.specs.Prelude.{◌≡◌};
+ghost use Rattle.alb_top.specs.Verdict.{is_accepted};
+ghost use Rattle.alb_top.specs.Script.{is_clean};
+ghost use Rattle.alb_top.specs.View.{judgement, answer};
+
+use alb_script::Refusal;
+
+/// Why the evidence for a claim is rejected. Lines are counted from 1: for the first two in the block, for the others in
+/// the derivation.
+#[derive(Debug, Drop)]
+pub enum Rejection {
+    /// A line of the block has none of the forms.
+    BadLine(u64),
+    /// A line of the block has a number of more than 18 digits.
+    BadNumber(u64),
+    /// An instance names an identity that there is not.
+    BadIdentity(u64),
+    /// An instance has another number of monomials than the identity's degree.
+    WrongCount(u64),
+    /// A line names line 0, itself or a later one.
+    LaterLine(u64),
+    /// A line has a type that is not at most the target.
+    OutOfType(u64),
+    /// The last line's polynomial is not the claimed one.
+    NotTheClaim,
+    /// The first rule of shape that a table breaks, from 1 to 6.
+    BadShape(u8),
+    /// The first identity, counted from 1, and the first tuple of elements at which its linearization is not zero.
+    Fails(u32, Vec<u64>),
+    /// The claimed polynomial's value is zero.
+    ValueZero,
 }
 
-/// What is answered to a line.
-#[derive(Clone, Copy, Debug, PartialEq, Eq)]
+/// What the evidence says of a claim.
+#[derive(Debug, Drop)]
+pub enum Verdict {
+    Zero,
+    NotZero,
+    Rejected(Rejection),
+}
+
+/// What is answered.
+#[derive(Drop)]
 pub enum Reply {
     Nothing,
     Ok,
     /// An identity was accepted, which has this number, counted from 1.
-    Identity(u64),
+    Identity(u32),
     Ready,
-    Accepted,
-    Rejected,
-    /// A polynomial has this fault at this byte of the line, counted from 1.
-    RefusedAt(u64, u64),
-    /// A line that is not asked for.
-    Refused,
+    Refused(Refusal),
+    Judged(Verdict),
+}
+
+impl Verdict {
+    /// Whether the evidence shows what it is to show.
+    pub fn is_accepted(&self) -> bool
+        ensures { result ≡ is_accepted (judgement self.now) }
+    {
+        match self {
+            Verdict::Zero | Verdict::NotZero => true,
+            Verdict::Rejected(_) => false,
+        }
+    }
+}
+
+impl Reply {
+    /// Whether no line is refused by it and no evidence rejected.
+    pub fn is_clean(&self) -> bool
+        ensures { result ≡ is_clean (answer self.now) }
+    {
+        match self {
+            Reply::Refused(_) => false,
+            Reply::Judged(verdict) => verdict.is_accepted(),
+            _ => true,
+        }
+    }
 }

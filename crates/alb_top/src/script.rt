@@ -1,262 +1,383 @@
-ghost use Rattle.std.specs.Prelude.{◌≡◌, ◌<◌, ◌≤◌, ◌↔◌, IsTrue, ℕ, List, length, Some, None, IfOk, OnErr, [], is_none};
-ghost use Rattle.alb_mono.specs.Letters.{alphabet};
-ghost use Rattle.alb_deriv.specs.Derivation.{claim_fault};
-ghost use Rattle.alb_top.specs.Script.{poly_at};
+ghost use Rattle.std.specs.Prelude.{◌≡◌, if◌then◌else◌, ◌≤◌, ◌<◌, IfOk, IfSome, IfNone, OnErr, MatchResult, IsTrue, true, false, List, ℕ, length, codes};
+ghost use Rattle.alb_lex.specs.declared.token.Token.{Token};
+ghost use Rattle.alb_script.specs.Asked as asking;
+ghost use Rattle.alb_script.specs.Asked.{asked, view, Gives, HasRead, IsPlain, Build, Quit, IsRead};
+ghost use Rattle.alb_script.specs.Refusals.{refusal_text};
+ghost use Rattle.alb_script.specs.declared.form.Form.TheVariants.{Check};
+ghost use Rattle.alb_top.specs.Script.{start, stated, tell, obey, letters_of, total_of, RefusedLine, Nothing, Judged, begins_claim};
+ghost use Rattle.alb_evidence.specs.Words.{ends_word};
+ghost use Rattle.alb_lex.specs.Lexing.{is_blank};
+ghost use Rattle.alb_top.specs.View.{answer, judgement, IsAnswer, IsStatement, IsTimely, IsOrder, AsksFor, MayBeAsked, CanBeWritten, of_problem, of_command, asks_of};
 
-use crate::block::line_of;
-use crate::reading::{ReadError, counts_of, field_251, letters_of, linear_of, poly_at};
-use crate::reply::{Place, Reply};
-use crate::words::{after, generators_of, is_word};
-use alb_deriv::{DerivError, Line, check_claim};
-use alb_linear::Identity;
-use alb_mono::{Letters, Multi, NoMemory};
-use alb_poly::{Poly, Rules};
+use crate::reply::{Reply, Verdict};
+use alb_lex::Token;
+use alb_mono::{Letters, NoMemory};
+use alb_poly::Poly;
+use alb_problem::{FinishError, Problem, ProblemBuilder, ProblemError};
+use alb_script::{Command, CommandError, Form, Refusal, read_command};
+use gf_field::Field;
 use std::alloc::Global;
 
-/// The most identities of a problem.
-const MOST_IDENTITIES: usize = 32;
+/// Whether the problem is being stated, or claims are made about it.
+#[derive(Drop)]
+pub enum Stage {
+    Stating(ProblemBuilder),
+    Asking(Problem),
+}
+
+fn name_field(builder: &mut ProblemBuilder, p: u64) -> Reply
+    ensures told { (answer result, builder.new) ≡ stated builder.old (asking.Field p) }
+    ensures fine { IsAnswer result }
+{
+    match builder.set_field(p) {
+        Ok(()) => Reply::Ok,
+        Err(error) => Reply::Refused(Refusal::Problem(error)),
+    }
+}
+
+fn name_generators(builder: &mut ProblemBuilder, tokens: &[Token], end: u32) -> Reply
+    ensures told { (answer result, builder.new) ≡ stated builder.old (asking.Generators tokens.now end) }
+    ensures fine { IsAnswer result }
+{
+    match builder.set_generators(tokens, end) {
+        Ok(()) => Reply::Ok,
+        Err(error) => Reply::Refused(Refusal::Problem(error)),
+    }
+}
+
+// The answer to an error of the problem.
+fn refusal(error: ProblemError) -> Result<Reply, NoMemory>
+    ensures { result ≡ of_problem error }
+{
+    match error {
+        ProblemError::NoMemory => Err(NoMemory),
+        error => Ok(Reply::Refused(Refusal::Problem(error))),
+    }
+}
+
+fn add_identity(builder: &mut ProblemBuilder, f: Poly) -> Result<Reply, NoMemory>
+    requires { IsRead builder.old.field 26 f }
+    ensures told { IfOk result (λ r. (answer r, builder.new) ≡ stated builder.old (asking.Identity f)) }
+    ensures fine { IfOk result (λ r. IsAnswer r) }
+    ensures unchanged { OnErr result (builder.new ≡ builder.old) }
+{
+    match builder.add_identity(f) {
+        Ok(number) => Ok(Reply::Identity(number)),
+        Err(error) => refusal(error),
+    }
+}
+
+// Takes a statement about the problem.
+fn state(builder: &mut ProblemBuilder, command: Command) -> Result<Reply, NoMemory>
+    requires statement { IsStatement (view command) }
+    requires read { HasRead builder.old.field 0 command }
+    ensures told { IfOk result (λ r. (answer r, builder.new) ≡ stated builder.old (view command)) }
+    ensures fine { IfOk result (λ r. IsAnswer r) }
+    ensures unchanged { OnErr result (builder.new ≡ builder.old) }
+{
+    match command {
+        Command::Field(p) => Ok(name_field(builder, p)),
+        Command::Generators(tokens, end) => Ok(name_generators(builder, &tokens, end)),
+        Command::Identity(f) => add_identity(builder, f),
+        _ => unreachable!(),
+    }
+}
+
+// What a command asks for.
+fn asks_of(command: Command) -> Asks
+    ensures { result ≡ asks_of command }
+{
+    match command {
+        Command::Claim(claim) => Asks::Claim(claim),
+        command => Asks::Command(command),
+    }
+}
+
+// A line that is no command that may stand here.
+fn refused(line: &[u8], error: CommandError) -> Result<Asks, NoMemory>
+    ensures { result ≡ of_command (begins_claim line.now) error }
+{
+    match error {
+        CommandError::NoMemory => Err(NoMemory),
+        error => {
+            if begins_claim(line) {
+                Ok(Asks::RefusedClaim(error))
+            } else {
+                Ok(Asks::Refusal(error))
+            }
+        }
+    }
+}
+
+fn is_blank(b: u8) -> bool
+    ensures { result ≡ is_blank b }
+{
+    b == b' ' || b == b'\t' || b == b'\r'
+}
+
+// Whether no word goes on.
+fn ends_word(text: &[u8]) -> bool
+    ensures { result ≡ ends_word text.now }
+{
+    match text.first() {
+        Some(b) => is_blank(*b),
+        None => true,
+    }
+}
+
+// Whether the first word is `claim`.
+fn begins_claim(line: &[u8]) -> bool
+    ensures { result ≡ begins_claim line.now }
+{
+    match line.split_first() {
+        None => false,
+        Some((b, rest)) if is_blank(*b) => begins_claim(rest),
+        Some(_) => line.starts_with(b"claim") && ends_word(&line[5..]),
+    }
+}
+
+/// What a line asks for.
+pub enum Asks {
+    /// A command other than a claim.
+    Command(Command),
+    /// A claim, whose block follows.
+    Claim(Poly),
+    /// Nothing: the line is no command that may stand here.
+    Refusal(CommandError),
+    /// The same of a line that begins with `claim`, whose block follows.
+    RefusedClaim(CommandError),
+}
 
 /// A script as far as it was read.
 #[derive(Drop)]
 pub struct Script {
-    place: Place,
-    letters: Letters,
-    identities: Vec<Identity>,
-    rules: Rules,
-    claim: Poly,
-    lines: Vec<Line>,
+    stage: Stage,
+    closed: bool,
     clean: bool,
 }
 
 impl Script {
-    ghost use Rattle.alb_top.specs.Script.{start, or_refused, refused_at, asked, identity_of, judged, answer_to, answer_to_end};
+    ghost use Rattle.alb_top.specs.Script.{State};
     ghost use Rattle.alb_top.specs.View.{state, IsScript};
-    ghost use Rattle.alb_top.specs.Answered.{AnswersAt, Answers};
 
     pub fn new(alloc: Global) -> Script
         ensures value { state result ≡ start }
         ensures script { IsScript result }
     {
         Script {
-            place: Place::Generators,
-            letters: Letters::of(&[]),
-            identities: Vec::new(alloc),
-            rules: Rules {
-                field: field_251(),
-                target: Multi::of(&[]),
-                linears: Vec::new(alloc),
-            },
-            claim: Poly::zero(alloc),
-            lines: Vec::new(alloc),
+            stage: Stage::Stating(ProblemBuilder::new(alloc)),
+            closed: false,
             clean: true,
         }
     }
 
-    // A line that is not asked for.
-    fn refuse(&mut self) -> Reply
-        requires { IsScript self.old }
-        ensures value { (result, state self.new) ≡ or_refused (state self.old) None }
-        ensures script { IsScript self.new }
+    /// The problem, where it is accepted.
+    pub fn problem(&self) -> Option<&Problem>
+        ensures some { IfSome result (λ q. self.now.stage ≡ Stage.Asking q.now) }
+        ensures none { IfNone result ((state self.now).built ≡ false) }
     {
-        self.place = Place::Closed;
-        self.clean = false;
-        Reply::Refused
-    }
-
-    // A polynomial that has a fault.
-    fn refuse_at(&mut self, code: u64, at: u64) -> Reply
-        requires { IsScript self.old }
-        ensures value { (result, state self.new) ≡ or_refused (state self.old) (refused_at code at (state self.old)) }
-        ensures script { IsScript self.new }
-    {
-        self.place = Place::Closed;
-        self.clean = false;
-        Reply::RefusedAt(code, at)
-    }
-
-    fn generators(&mut self, alloc: Global, line: &[u8]) -> Result<Reply, NoMemory>
-        requires script { IsScript self.old }
-        requires short { length line.now ≤ 65536 }
-        requires place { self.old.place ≡ Place.Generators }
-        ensures { AnswersAt Place.Generators result self.old self.new line.now }
-    {
-        let Some(pairs) = generators_of(alloc, line)? else {
-            return Ok(self.refuse());
-        };
-        let letters = letters_of(alloc, &pairs)?;
-        let counts = counts_of(alloc, &pairs)?;
-        self.letters = Letters::of(&letters);
-        self.rules.target = Multi::of(&counts);
-        self.place = Place::Identities;
-        Ok(Reply::Ok)
-    }
-
-    // Takes an identity.
-    fn identity(&mut self, alloc: Global, line: &[u8]) -> Result<Reply, NoMemory>
-        requires script { IsScript self.old }
-        requires short { length line.now ≤ 65536 }
-        requires from { 9 ≤ length line.now }
-        requires room { length (state self.old).forms < 32 }
-        ensures { Answers result self.old self.new (identity_of (state self.old) (poly_at alphabet 9 line.now)) }
-    {
-        let f = match poly_at(alloc, &self.rules.field, &Letters::all(), 9, line) {
-            Ok(f) => f,
-            Err(ReadError::Refused(code, at)) => return Ok(self.refuse_at(code, at)),
-            Err(ReadError::NoMemory) => return Err(NoMemory),
-        };
-        let Some((identity, linear)) = linear_of(alloc, &self.rules.field, f)? else {
-            return Ok(self.refuse());
-        };
-        self.identities.push(identity)?;
-        if self.rules.linears.push(linear).is_err() {
-            let _ = self.identities.pop();
-            return Err(NoMemory);
-        }
-        Ok(Reply::Identity(self.rules.linears.len() as u64))
-    }
-
-    fn identities(&mut self, alloc: Global, line: &[u8]) -> Result<Reply, NoMemory>
-        requires script { IsScript self.old }
-        requires short { length line.now ≤ 65536 }
-        ensures { AnswersAt Place.Identities result self.old self.new line.now }
-    {
-        if is_word(b"build", line) && !self.rules.linears.is_empty() {
-            self.place = Place::Claim;
-            return Ok(Reply::Ready);
-        }
-        if self.rules.linears.len() < MOST_IDENTITIES && after(b"identity ", line).is_some() {
-            return self.identity(alloc, line);
-        }
-        Ok(self.refuse())
-    }
-
-    fn claim(&mut self, alloc: Global, line: &[u8]) -> Result<Reply, NoMemory>
-        requires script { IsScript self.old }
-        requires short { length line.now ≤ 65536 }
-        ensures { AnswersAt Place.Claim result self.old self.new line.now }
-    {
-        if after(b"claim ", line).is_none() {
-            return Ok(self.refuse());
-        }
-        match poly_at(alloc, &self.rules.field, &self.letters, 6, line) {
-            Ok(f) => {
-                self.claim = f;
-                self.place = Place::Derivation;
-                Ok(Reply::Nothing)
-            }
-            Err(ReadError::Refused(code, at)) => Ok(self.refuse_at(code, at)),
-            Err(ReadError::NoMemory) => Err(NoMemory),
-        }
-    }
-
-    fn derivation(&mut self, line: &[u8]) -> Reply
-        requires { IsScript self.old }
-        ensures value { (result, state self.new) ≡ or_refused (state self.old) (asked Place.Derivation (state self.old) line.now) }
-        ensures script { IsScript self.new }
-    {
-        if is_word(b"derivation", line) {
-            self.place = Place::Block;
-            Reply::Nothing
-        } else {
-            self.refuse()
-        }
-    }
-
-    // Judges the derivation.
-    fn judge(&mut self, alloc: Global) -> Result<Reply, NoMemory>
-        requires { IsScript self.old }
-        ensures { Answers result self.old self.new (Some (judged (is_none (claim_fault 251 (state self.old).target (state self.old).forms (state self.old).claim (state self.old).lines)) (state self.old))) }
-    {
-        let is_derivation = match check_claim(alloc, &self.rules, &self.lines, &self.claim) {
-            Ok(()) => true,
-            Err(DerivError::NoMemory) => return Err(NoMemory),
-            Err(_) => false,
-        };
-        self.place = Place::InputEnd;
-        self.clean = is_derivation;
-        if is_derivation {
-            Ok(Reply::Accepted)
-        } else {
-            Ok(Reply::Rejected)
-        }
-    }
-
-    fn block(&mut self, alloc: Global, line: &[u8]) -> Result<Reply, NoMemory>
-        requires script { IsScript self.old }
-        requires place { self.old.place ≡ Place.Block }
-        requires short { length line.now ≤ 65536 }
-        ensures { AnswersAt Place.Block result self.old self.new line.now }
-    {
-        if is_word(b"end", line) {
-            return self.judge(alloc);
-        }
-        match line_of(alloc, &self.letters, self.lines.len() as u64 + 1, line)? {
-            Some(entry) => {
-                self.lines.push(entry)?;
-                Ok(Reply::Nothing)
-            }
-            None => Ok(self.refuse()),
-        }
-    }
-
-    /// Takes the next line.
-    pub fn step(&mut self, alloc: Global, line: &[u8]) -> Result<Reply, NoMemory>
-        requires script { IsScript self.old }
-        requires short { length line.now ≤ 65536 }
-        ensures ok { IfOk result (λ r. (r, state self.new) ≡ answer_to (state self.old) line.now) }
-        ensures err { OnErr result (state self.new ≡ state self.old) }
-        ensures script { IsScript self.new }
-    {
-        match self.place {
-            Place::Generators => self.generators(alloc, line),
-            Place::Identities => self.identities(alloc, line),
-            Place::Claim => self.claim(alloc, line),
-            Place::Derivation => Ok(self.derivation(line)),
-            Place::Block => self.block(alloc, line),
-            Place::InputEnd => Ok(self.refuse()),
-            Place::Closed => Ok(Reply::Nothing),
-        }
-    }
-
-    /// Takes a line that is too long.
-    pub fn step_long(&mut self) -> Reply
-        requires { IsScript self.old }
-        ensures value { (line : List ℕ) → 65536 < length line → (result, state self.new) ≡ answer_to (state self.old) line }
-        ensures script { IsScript self.new }
-    {
-        if self.is_closed() {
-            Reply::Nothing
-        } else {
-            self.refuse()
-        }
-    }
-
-    /// Takes the end of the lines.
-    pub fn finish(&mut self) -> Reply
-        requires { IsScript self.old }
-        ensures value { (result, state self.new) ≡ answer_to_end (state self.old) }
-        ensures script { IsScript self.new }
-    {
-        match self.place {
-            Place::InputEnd => {
-                self.place = Place::Closed;
-                Reply::Nothing
-            }
-            Place::Closed => Reply::Nothing,
-            _ => self.refuse(),
+        match &self.stage {
+            Stage::Stating(_) => None,
+            Stage::Asking(problem) => Some(problem),
         }
     }
 
     /// Whether no further line is read.
     pub fn is_closed(&self) -> bool
-        ensures { IsTrue result ↔ (self.now.place ≡ Place.Closed) }
+        ensures { result ≡ (state self.now).closed }
     {
-        self.place == Place::Closed
+        self.closed
     }
 
+    /// Whether no line was refused and no evidence rejected.
     pub fn is_clean(&self) -> bool
-        ensures { result ≡ self.now.clean }
+        ensures { result ≡ (state self.now).clean }
     {
         self.clean
+    }
+
+    // The field, and the letters and the total degree of an accepted problem.
+    fn field(&self) -> &Field
+        ensures { result.now ≡ (state self.now).problem.field }
+    {
+        match &self.stage {
+            Stage::Stating(builder) => builder.field(),
+            Stage::Asking(problem) => &problem.rules.field,
+        }
+    }
+
+    // What a line of at most 65,536 bytes is, by the words that stand here.
+    fn command(&self, alloc: Global, line: &[u8]) -> Result<Command, CommandError>
+        requires { length line.now ≤ 65536 }
+        ensures exact { Gives view result (asked Check (state self.now).built (total_of (state self.now)) (state self.now).problem.field (letters_of (state self.now)) line.now) }
+        ensures read { IfOk result (λ c. HasRead (state self.now).problem.field (length (letters_of (state self.now))) c) }
+        ensures told { MatchResult result (λ c. Unit {0}) (λ e. IsPlain e) }
+    {
+        match &self.stage {
+            Stage::Stating(builder) => {
+                let unnamed = Letters::of(&[]);
+                read_command(
+                    alloc,
+                    line,
+                    Form::Check,
+                    false,
+                    0,
+                    builder.field(),
+                    &unnamed,
+                )
+            }
+            Stage::Asking(problem) => read_command(
+                alloc,
+                line,
+                Form::Check,
+                true,
+                problem.rules.target.degree(),
+                &problem.rules.field,
+                &problem.letters,
+            ),
+        }
+    }
+
+    /// What a line of at most 65,536 bytes asks for.
+    pub fn asks(&self, alloc: Global, line: &[u8]) -> Result<Asks, NoMemory>
+        requires { length line.now ≤ 65536 }
+        ensures asks { IfOk result (λ a. AsksFor a (state self.now) line.now) }
+        ensures timely { IfOk result (λ a. MayBeAsked a (state self.now)) }
+    {
+        match self.command(alloc, line) {
+            Ok(command) => Ok(asks_of(command)),
+            Err(error) => refused(line, error),
+        }
+    }
+
+    /// The script behind a refused line, and the answer.
+    pub fn refuse(self, refusal: Refusal) -> (Reply, Script)
+        requires written { CanBeWritten refusal }
+        requires script { IsScript self }
+        ensures told { (answer result.0, state result.1) ≡ tell (RefusedLine (refusal_text refusal)) (state self) }
+        ensures fine { IsAnswer result.0 }
+        ensures script { IsScript result.1 }
+    {
+        let next = Script {
+            stage: self.stage,
+            closed: self.closed,
+            clean: false,
+        };
+        (Reply::Refused(refusal), next)
+    }
+
+    /// The script behind the block of a claim, and the answer.
+    pub fn judged(self, verdict: Verdict) -> (Reply, Script)
+        requires script { IsScript self }
+        ensures reply { result.0 ≡ Reply.Judged verdict }
+        ensures told { (Judged (judgement verdict), state result.1) ≡ tell (Judged (judgement verdict)) (state self) }
+        ensures script { IsScript result.1 }
+    {
+        let is_accepted = verdict.is_accepted();
+        let next = Script {
+            stage: self.stage,
+            closed: self.closed,
+            clean: is_accepted && self.clean,
+        };
+        (Reply::Judged(verdict), next)
+    }
+
+    // The script behind a statement about the problem, and the answer.
+    fn state(self, command: Command) -> Result<(Reply, Script), NoMemory>
+        requires statement { IsStatement (view command) }
+        requires timely { IsTimely (state self).built (view command) }
+        requires read { HasRead (state self).problem.field (length (letters_of (state self))) command }
+        ensures told { IfOk result (λ r. (answer r.0, state r.1) ≡ obey (state self) (view command)) }
+        ensures fine { IfOk result (λ r. IsAnswer r.0) }
+        ensures script { IfOk result (λ r. IsScript r.1) }
+    {
+        let Script {
+            stage,
+            closed,
+            clean,
+        } = self;
+        let Stage::Stating(mut builder) = stage else {
+            unreachable!();
+        };
+        let reply = state(&mut builder, command)?;
+        let is_clean = reply.is_clean();
+        let next = Script {
+            stage: Stage::Stating(builder),
+            closed,
+            clean: is_clean && clean,
+        };
+        Ok((reply, next))
+    }
+
+    /// The script behind a command other than a claim, and the answer.
+    pub fn obey(self, command: Command) -> Result<(Reply, Script), NoMemory>
+        requires order { IsOrder (view command) }
+        requires timely { IsTimely (state self).built (view command) }
+        requires read { HasRead (state self).problem.field (length (letters_of (state self))) command }
+        requires script { IsScript self }
+        ensures told { IfOk result (λ r. (answer r.0, state r.1) ≡ obey (state self) (view command)) }
+        ensures fine { IfOk result (λ r. IsAnswer r.0) }
+        ensures script { IfOk result (λ r. IsScript r.1) }
+    {
+        match command {
+            Command::Blank => Ok((Reply::Nothing, self)),
+            Command::Build => Ok(self.build()),
+            Command::Quit => Ok((Reply::Nothing, self.close())),
+            statement => self.state(statement),
+        }
+    }
+
+    // The script behind its end.
+    fn close(self) -> Script
+        requires script { IsScript self }
+        ensures told { (Nothing, state result) ≡ obey (state self) Quit }
+        ensures script { IsScript result }
+    {
+        Script {
+            stage: self.stage,
+            closed: true,
+            clean: self.clean,
+        }
+    }
+
+    // The script behind the end of the problem, and the answer.
+    fn build(self) -> (Reply, Script)
+        requires stating { (state self).built ≡ false }
+        ensures told { (answer result.0, state result.1) ≡ obey (state self) Build }
+        ensures fine { IsAnswer result.0 }
+        ensures script { IsScript result.1 }
+    {
+        let Script {
+            stage,
+            closed,
+            clean,
+        } = self;
+        let Stage::Stating(builder) = stage else {
+            unreachable!();
+        };
+        match builder.finish() {
+            Ok(problem) => {
+                let stage = Stage::Asking(problem);
+                (
+                    Reply::Ready,
+                    Script {
+                        stage,
+                        closed,
+                        clean,
+                    },
+                )
+            }
+            Err(FinishError { builder, error }) => {
+                let stage = Stage::Stating(builder);
+                (
+                    Reply::Refused(Refusal::Problem(error)),
+                    Script {
+                        stage,
+                        closed,
+                        clean: false,
+                    },
+                )
+            }
+        }
     }
 }

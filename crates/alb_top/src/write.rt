@@ -1,57 +1,116 @@
-ghost use Rattle.std.specs.Prelude.{◌≡◌, ◌++◌, codes, decimal};
+ghost use Rattle.std.specs.Prelude.{◌≡◌, ◌∷◌, decimal};
+ghost use Rattle.std.specs.List.{flat_map};
 ghost use Rattle.alb_io.specs.Causes.{HasCause};
 ghost use Rattle.alb_io.specs.Puts.{Puts};
+ghost use Rattle.alb_script.specs.Refusals.{line_of};
+ghost use Rattle.alb_top.specs.Verdict.{numbered, verdict_text, failure_text, places_text};
 ghost use Rattle.alb_top.specs.Script.{text_of};
+ghost use Rattle.alb_top.specs.View.{rejection_text, judgement, answer, IsAnswer};
 
-use crate::reply::Reply;
+use crate::reply::{Rejection, Reply, Verdict};
 use alb_io::{Sink, WriteFault, put_all};
+use alb_mono::Letters;
+use alb_script::write_refusal;
 use itoa::Buffer;
 
-/// Writes what is answered.
-pub fn write_reply<K: Sink>(sink: &mut K, reply: Reply) -> Result<(), WriteFault>
-    ensures puts { Puts result (K.taken sink.old) (K.taken sink.new) (text_of reply) }
+/// Writes what is answered. No refusal prints by the generators' letters.
+pub fn write_reply<K: Sink>(sink: &mut K, reply: &Reply) -> Result<(), WriteFault>
+    requires { IsAnswer reply.now }
+    ensures puts { Puts result (K.taken sink.old) (K.taken sink.new) (text_of (answer reply.now)) }
     ensures same_name { K.name sink.new ≡ K.name sink.old }
     ensures cause { HasCause (K.faults sink.old) (K.faults sink.new) result }
 {
     match reply {
         Reply::Nothing => Ok(()),
         Reply::Ok => put_all(sink, b"ok\n"),
-        Reply::Identity(number) => write_identity(sink, number),
+        Reply::Identity(number) => write_numbered(sink, b"identity ", u64::from(*number)),
         Reply::Ready => put_all(sink, b"ready\n"),
-        Reply::Accepted => put_all(sink, b"accepted zero\n"),
-        Reply::Rejected => put_all(sink, b"rejected\n"),
-        Reply::RefusedAt(code, at) => write_refusal(sink, code, at),
-        Reply::Refused => put_all(sink, b"refused 90\n"),
+        Reply::Refused(refusal) => write_refusal(sink, &Letters::all(), refusal),
+        Reply::Judged(verdict) => write_verdict(sink, verdict),
     }
 }
 
-fn write_identity<K: Sink>(sink: &mut K, number: u64) -> Result<(), WriteFault>
-    ensures puts { Puts result (K.taken sink.old) (K.taken sink.new) (codes "identity " ++ decimal number ++ codes "\n") }
+fn write_verdict<K: Sink>(sink: &mut K, verdict: &Verdict) -> Result<(), WriteFault>
+    ensures puts { Puts result (K.taken sink.old) (K.taken sink.new) (verdict_text (judgement verdict.now)) }
     ensures same_name { K.name sink.new ≡ K.name sink.old }
     ensures cause { HasCause (K.faults sink.old) (K.faults sink.new) result }
 {
-    put_all(sink, b"identity ")?;
-    write_number(sink, number)?;
+    match verdict {
+        Verdict::Zero => put_all(sink, b"accepted zero\n"),
+        Verdict::NotZero => put_all(sink, b"accepted not zero\n"),
+        Verdict::Rejected(rejection) => write_rejection(sink, rejection),
+    }
+}
+
+fn write_rejection<K: Sink>(sink: &mut K, rejection: &Rejection) -> Result<(), WriteFault>
+    ensures puts { Puts result (K.taken sink.old) (K.taken sink.new) (rejection_text rejection.now) }
+    ensures same_name { K.name sink.new ≡ K.name sink.old }
+    ensures cause { HasCause (K.faults sink.old) (K.faults sink.new) result }
+{
+    match rejection {
+        Rejection::BadLine(line) => write_numbered(sink, b"rejected 70 line ", *line),
+        Rejection::BadNumber(line) => write_numbered(sink, b"rejected 71 line ", *line),
+        Rejection::BadIdentity(line) => write_numbered(sink, b"rejected 50 line ", *line),
+        Rejection::WrongCount(line) => write_numbered(sink, b"rejected 51 line ", *line),
+        Rejection::LaterLine(line) => write_numbered(sink, b"rejected 52 line ", *line),
+        Rejection::OutOfType(line) => write_numbered(sink, b"rejected 53 line ", *line),
+        Rejection::NotTheClaim => put_all(sink, b"rejected 54\n"),
+        Rejection::BadShape(rule) => write_numbered(sink, b"rejected 60 rule ", u64::from(*rule)),
+        Rejection::Fails(identity, tuple) => write_failure(sink, *identity, tuple),
+        Rejection::ValueZero => put_all(sink, b"rejected 62\n"),
+    }
+}
+
+// Writes the identity that fails, and the elements.
+fn write_failure<K: Sink>(sink: &mut K, identity: u32, tuple: &[u64]) -> Result<(), WriteFault>
+    ensures puts { Puts result (K.taken sink.old) (K.taken sink.new) (failure_text identity tuple.now) }
+    ensures same_name { K.name sink.new ≡ K.name sink.old }
+    ensures cause { HasCause (K.faults sink.old) (K.faults sink.new) result }
+{
+    put_all(sink, b"rejected 61 identity ")?;
+    write_number(sink, u64::from(identity))?;
+    write_places(sink, tuple)
+}
+
+fn write_places<K: Sink>(sink: &mut K, tuple: &[u64]) -> Result<(), WriteFault>
+    ensures puts { Puts result (K.taken sink.old) (K.taken sink.new) (places_text tuple.now) }
+    ensures same_name { K.name sink.new ≡ K.name sink.old }
+    ensures cause { HasCause (K.faults sink.old) (K.faults sink.new) result }
+{
+    put_all(sink, b" at")?;
+    write_elements(sink, tuple)?;
     put_all(sink, b"\n")
 }
 
-fn write_refusal<K: Sink>(sink: &mut K, code: u64, at: u64) -> Result<(), WriteFault>
-    ensures puts { Puts result (K.taken sink.old) (K.taken sink.new) (codes "refused " ++ decimal code ++ (codes " at " ++ decimal at ++ codes "\n")) }
+// Writes each element behind a blank.
+fn write_elements<K: Sink>(sink: &mut K, tuple: &[u64]) -> Result<(), WriteFault>
+    ensures puts { Puts result (K.taken sink.old) (K.taken sink.new) (flat_map (λ k. 32 ∷ decimal k) tuple.now) }
     ensures same_name { K.name sink.new ≡ K.name sink.old }
     ensures cause { HasCause (K.faults sink.old) (K.faults sink.new) result }
 {
-    put_all(sink, b"refused ")?;
-    write_number(sink, code)?;
-    write_place(sink, at)
+    for element in tuple {
+        write_element(sink, *element)?;
+    }
+    Ok(())
 }
 
-fn write_place<K: Sink>(sink: &mut K, at: u64) -> Result<(), WriteFault>
-    ensures puts { Puts result (K.taken sink.old) (K.taken sink.new) (codes " at " ++ decimal at ++ codes "\n") }
+fn write_element<K: Sink>(sink: &mut K, element: u64) -> Result<(), WriteFault>
+    ensures puts { Puts result (K.taken sink.old) (K.taken sink.new) (32 ∷ decimal element) }
     ensures same_name { K.name sink.new ≡ K.name sink.old }
     ensures cause { HasCause (K.faults sink.old) (K.faults sink.new) result }
 {
-    put_all(sink, b" at ")?;
-    write_number(sink, at)?;
+    put_all(sink, b" ")?;
+    write_number(sink, element)
+}
+
+// Writes a line that ends with a number.
+fn write_numbered<K: Sink>(sink: &mut K, front: &[u8], number: u64) -> Result<(), WriteFault>
+    ensures puts { Puts result (K.taken sink.old) (K.taken sink.new) (numbered front.now number) }
+    ensures same_name { K.name sink.new ≡ K.name sink.old }
+    ensures cause { HasCause (K.faults sink.old) (K.faults sink.new) result }
+{
+    put_all(sink, front)?;
+    write_number(sink, number)?;
     put_all(sink, b"\n")
 }
 

@@ -1,13 +1,12 @@
 use Rattle.std.proofs.Common.{◌≡◌, ◌≤◌, ◌+◌, false, length}
 use Rattle.alb_top.specs.View.{state, IsScript}
 use Rattle.alb_top.specs.Going.{Going}
-use Rattle.alb_top.specs.declared.reply.Place.TheVariants as place
 use Rattle.alb_top.proofs.run.run_script.Given as goal
 
-abbrev pub invariant-lines : goal.invariant-lines
-invariant-lines g l = record {
+abbrev pub invariant-turns : goal.invariant-turns
+invariant-turns g l = record {
   going : Going l.reader (state l.script) (g.S.Source.left l.fn.input) (g.S.Source.left l.input) (g.K.Sink.taken l.fn.output) (g.K.Sink.taken l.output);
-  runs : l.script.place ≡ place.Closed → ⊥;
+  runs : (state l.script).closed ≡ false;
   script : IsScript l.script;
   not_ended : l.reader.ended ≡ false;
   reads : g.S.Source.faults l.fn.input ≤ g.S.Source.faults l.input;
@@ -15,5 +14,5 @@ invariant-lines g l = record {
   sound : g.S.Source.is_sound l.fn.input → g.S.Source.is_sound l.input;
 }
 
-abbrev pub decreases-lines : goal.decreases-lines
-decreases-lines g l = l.reader.room + length l.reader.held
+abbrev pub decreases-turns : goal.decreases-turns
+decreases-turns g l = l.reader.room + length l.reader.held

@@ -1,0 +1,20 @@
+use Rattle.std.proofs.Common.{codes, ◌++◌}
+use Rattle.std.specs.List.{flat_map}
+use Rattle.std.proofs.lemmas.Result.{err_from_is_err_and}
+use Rattle.alb_io.proofs.Fronts.{AppendsFront-more, AppendsFront-then, Puts-then}
+use Rattle.alb_top.proofs.WriteLemmas.{element_text}
+use Rattle.alb_top.proofs.write.write_places.Goals as goal
+
+pub returns-in_err-put_all-clause-puts : goal.returns-in_err-put_all-clause-puts
+returns-in_err-put_all-clause-puts g c =
+    let p = err_from_is_err_and c.from_residual.result c.from_residual.ensures.1 in
+    rw p.1 (AppendsFront-more _ _ (codes " at") (flat_map element_text c.args.tuple.now ++ codes "\n") c.in_err-put_all.ensures.puts)
+
+pub returns-in_err-write_elements-clause-puts : goal.returns-in_err-write_elements-clause-puts
+returns-in_err-write_elements-clause-puts g c =
+    let p = err_from_is_err_and c.from_residual-in_err-write_elements.result c.from_residual-in_err-write_elements.ensures.1 in
+    rw p.1 (AppendsFront-then _ _ _ (codes " at") _ c.in_ok-put_all.ensures.puts (AppendsFront-more _ _ (flat_map element_text c.args.tuple.now) (codes "\n") c.in_err-write_elements.ensures.puts))
+
+pub returns-clause-puts : goal.returns-clause-puts
+returns-clause-puts g c =
+    Puts-then c.put_all-2.result _ _ _ (codes " at") _ c.in_ok-put_all.ensures.puts (Puts-then c.put_all-2.result _ _ _ (flat_map element_text c.args.tuple.now) (codes "\n") c.in_ok-write_elements.ensures.puts c.put_all-2.ensures.puts)
