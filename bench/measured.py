@@ -1,9 +1,8 @@
-"""What the benchmarks share: the built program, and one run of it with its time and its peak memory."""
+"""What the benchmarks share: the built program, and runs of it with their time and their peak memory, and monomials."""
 
 import os
 import sys
 import tempfile
-import time
 
 TOP = os.path.dirname(os.path.dirname(os.path.realpath(__file__)))
 PROGRAM = os.path.join(TOP, "crates", "albert", "out", "albert")
@@ -20,11 +19,13 @@ def program():
 def run(path, script):
     """Runs the check on the file SCRIPT. Returns the seconds, the peak memory in MB, the status and the output.
 
+    The seconds are the processor time of the process, which other work on the machine changes less than the time that
+    passes. The process is one thread that never waits, so alone on a machine the two are alike.
+
     The peak is that of the process itself (the highest resident size that the system counted). It is never below what
     this small script itself takes, some 10 to 20 MB.
     """
     with open(script, "rb") as given, tempfile.TemporaryFile() as written:
-        began = time.perf_counter()
         child = os.fork()
         if child == 0:
             try:
@@ -34,11 +35,10 @@ def run(path, script):
             finally:
                 os._exit(127)
         _, ended, used = os.wait4(child, 0)
-        seconds = time.perf_counter() - began
         written.seek(0)
         text = written.read().decode()
     status = os.WEXITSTATUS(ended) if os.WIFEXITED(ended) else -os.WTERMSIG(ended)
-    return seconds, used.ru_maxrss / 1024, status, text
+    return used.ru_utime + used.ru_stime, used.ru_maxrss / 1024, status, text
 
 
 def best(path, script, times):
@@ -51,3 +51,29 @@ def demand(name, status, text, wanted_status, wanted_text):
     """Stops where a run did not write and end as it is to: its time would say nothing."""
     if (status, text) != (wanted_status, wanted_text):
         sys.exit(f"{name}: status {status} and output {text[:200]!r}, wanted {wanted_status} and {wanted_text!r}")
+
+
+def seconds_of(path, room, name, text, times, wanted_status, wanted_text):
+    """Runs a script of this text, or of these pieces, several times. Returns the least seconds and the greatest peak.
+
+    Stops where the last run does not write and end as it is to.
+    """
+    script = os.path.join(room, "script.txt")
+    with open(script, "w", encoding="ascii") as file:
+        file.writelines([text] if isinstance(text, str) else text)
+    seconds, peak, status, written = best(path, script, times)
+    demand(name, status, written, wanted_status, wanted_text)
+    return seconds, peak
+
+
+def factor(text):
+    """Returns a monomial as a factor: in brackets, where it is a product."""
+    return text if len(text) == 1 else f"({text})"
+
+
+def bracketings(word):
+    """Returns every monomial with the letters of the word in their order."""
+    if len(word) == 1:
+        return [word]
+    halves = [(word[:k], word[k:]) for k in range(1, len(word))]
+    return [factor(l) + factor(r) for left, right in halves for l in bracketings(left) for r in bracketings(right)]
