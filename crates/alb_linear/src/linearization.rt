@@ -1,8 +1,9 @@
-ghost use Rattle.std.specs.Prelude.{◌≡◌, ◌+◌, ◌*◌, ◌<◌, ◌≤◌, ◌++◌, ℕ, IsTrue, IfOk, OnOk, All, length, map, slice_index, sum};
+ghost use Rattle.std.specs.Prelude.{◌≡◌, ◌+◌, ◌*◌, ◌<◌, ◌≤◌, ◌++◌, ℕ, IsTrue, IsPermutation, IfOk, OnOk, All, length, map, slice_index, sum};
 ghost use Rattle.std.specs.List.{flat_map};
 ghost use Rattle.alb_mono.specs.Mono.{tree};
 ghost use Rattle.alb_mono.specs.Tree.{are_below, count, degree, leaf};
 ghost use Rattle.alb_poly.specs.Poly.{AreResidues};
+ghost use Rattle.alb_poly.specs.Normal.{normal};
 ghost use Rattle.alb_poly.specs.Terms.{terms};
 ghost use Rattle.alb_poly.specs.Instance.{fill, first_number, numbered};
 ghost use Rattle.alb_linear.specs.Identity.{IsIdentity, Linearizes, factorial, factorials};
@@ -121,6 +122,47 @@ fn linearized_terms(
     Ok(out)
 }
 
+// The positions below 8 that occur in a monomial, the first one as the highest of 8 bits.
+fn positions(m: &Mono) -> u8 {
+    match m {
+        Mono::Gen(k) => 128 >> (*k).min(7),
+        Mono::Prod(left, right) => positions(left) | positions(right),
+    }
+}
+
+// A number behind another one: for each product in the monomial, how many leaves its left factor has and which positions. By
+// these numbers monomials of at most 8 different positions come in ascending order.
+fn number_behind(m: &Mono, number: u128) -> u128 {
+    match m {
+        Mono::Gen(_) => number,
+        Mono::Prod(left, right) => {
+            let at = positions(left);
+            let own = u128::from(at.count_ones()) * 256 + u128::from(255 - at);
+            let with_own = number.wrapping_mul(4096).wrapping_add(own);
+            number_behind(right, number_behind(left, with_own))
+        }
+    }
+}
+
+// Brings terms near their order, by numbers that are quickly compared.
+fn bring_near(list: &mut Vec<Term>) -> Result<(), NoMemory>
+    ensures { IsPermutation list.old.items list.new.items }
+{
+    list.sort_by_cached_key(|t| u128::MAX - number_behind(&t.mono, 0))?;
+    Ok(())
+}
+
+// The polynomial of some terms. They are brought near their order first, so that little is left to compare as monomials.
+fn ordered(alloc: Global, field: &Field, list: Vec<Term>) -> Result<Poly, NoMemory>
+    requires { All (λ t. t.coef < field.now) list.items }
+    ensures value { IfOk result (λ f. f ≡ normal field.now (terms list.items)) }
+    ensures residues { IfOk result (λ f. AreResidues field.now f) }
+{
+    let mut list = list;
+    bring_near(&mut list)?;
+    Poly::from_terms(alloc, field, list)
+}
+
 /// The full linearization (Zhevlakov, Slinko, Shestakov and Shirshov, *Rings That Are Nearly Associative*, chapter 1): a
 /// variable of degree `e` is replaced by `e` new ones in all orders. It is refused where it would have more than 100,000
 /// terms, before any work.
@@ -139,6 +181,6 @@ pub fn linearize(alloc: Global, field: &Field, f: &Identity) -> Result<Linear, I
     let degree = e.degree();
     let all = arrangements(alloc, e.counts(), Places::first(degree as u8).list())?;
     let linearized = linearized_terms(alloc, list, &first_numbers(e.counts()), &all)?;
-    let terms = Poly::from_terms(alloc, field, linearized)?;
+    let terms = ordered(alloc, field, linearized)?;
     Ok(Linear { degree, terms })
 }

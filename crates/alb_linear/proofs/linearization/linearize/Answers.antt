@@ -27,8 +27,8 @@ linearized_terms-requires c =
     all_within (leading_type f) c.terms-list.result.now f c.first_numbers.result c.deref.result.now c.terms-list.ensures.value
     (identity-homogeneous c.terms-list.result.now f c.terms-list.ensures.value fit) (length-leading f fit.nonzero) first all
 
-pub from_terms-requires : goal.from_terms-requires
-from_terms-requires c =
+pub ordered-requires : goal.ordered-requires
+ordered-requires c =
     let f : Poly = c.args.f.now.poly in
     let fit : IsFit f = identity-fits c.args.f.now.poly c.requires.identity.no_fault in
     let lead : c.leading_type-e.result ≡ leading_type f = c.leading_type-e.ensures ∙ ap leading_type c.terms-list.ensures.value in
