@@ -1,11 +1,12 @@
 -- The laws of the order of monomials.
 use Rattle.std.proofs.Common.{◌≡◌, ℕ, ◌<◌, sym, refl, ap, ◌∙◌, Ordering, sum, true}
+use Rattle.std.proofs.lemmas.Bool.{false≢true, eqb-true}
 use Rattle.std.specs.Cmp.{IsTotalOrder}
 use Rattle.std.specs.Ordering.{nat_cmp, ordering_then, ordering_reverse}
 use Rattle.std.specs.declared.cmp.Ordering.TheVariants.{Less, Equal, Greater}
 use Rattle.std.proofs.lemmas.Cmp.{nat_cmp_total, on_total, then_total, back_total, nat_list_cmp_total, tied_itself, alike_right, ranked, by_ranked}
-use Rattle.alb_mono.proofs.Leaves.{sum-type_of}
-use Rattle.alb_mono.specs.Tree.{Tree, leaf, node, degree, are_below, type_of, cmp_types, cmp_trees, cmp_monos}
+use Rattle.alb_mono.proofs.Leaves.{sum-type_of, and_left, and_right}
+use Rattle.alb_mono.specs.Tree.{Tree, leaf, node, degree, are_below, type_of, cmp_types, cmp_trees, cmp_monos, same_tree}
 
 pub cmp_types_total : IsTotalOrder cmp_types
 cmp_types_total = then_total (on_total sum nat_cmp_total) (back_total nat_list_cmp_total)
@@ -115,17 +116,25 @@ product_left m n x t h = rw (t, tied_itself cmp_types_total (type_of 26 n), h)
 pub product_right : (m n x : Tree) → type_of 26 m ≡ type_of 26 n → cmp_trees m n ≡ Less → cmp_trees (node x m) (node x n) ≡ Less
 product_right m n x t h = rw (tied_itself cmp_types_total (type_of 26 x), tied_itself cmp_trees_total x, h)
 
--- monomials of different degrees are in the order of their degrees
-pub monos-by_degree : (x y : Tree) → are_below 26 x ≡ true → are_below 26 y ≡ true → (nat_cmp (degree x) (degree y) ≡ Equal → ⊥) → cmp_monos x y ≡ nat_cmp (degree x) (degree y)
-monos-by_degree x y h k ne =
+-- the types of monomials of different degrees are in the order of their degrees
+pub types-by_degree : (x y : Tree) → are_below 26 x ≡ true → are_below 26 y ≡ true → (nat_cmp (degree x) (degree y) ≡ Equal → ⊥) →
+    cmp_types (type_of 26 x) (type_of 26 y) ≡ nat_cmp (degree x) (degree y)
+types-by_degree x y h k ne =
     let e : nat_cmp (sum (type_of 26 x)) (sum (type_of 26 y)) ≡ nat_cmp (degree x) (degree y) = rw (sum-type_of 26 x h, sum-type_of 26 y k) in
-    let a : cmp_types (type_of 26 x) (type_of 26 y) ≡ nat_cmp (degree x) (degree y) = then_decided _ _ (λ q. ne (sym e ∙ q)) ∙ e in
-    then_decided _ _ (λ q. ne (sym a ∙ q)) ∙ a
+    then_decided _ _ (λ q. ne (sym e ∙ q)) ∙ e
 
--- monomials of different types are in the order of their types
-pub monos-by_type : (x y : Tree) → (cmp_types (type_of 26 x) (type_of 26 y) ≡ Equal → ⊥) → cmp_monos x y ≡ cmp_types (type_of 26 x) (type_of 26 y)
-monos-by_type x y ne = then_decided _ _ ne
+-- monomials that the test finds the same are the same
+pub same_tree-sound : (x y : Tree) → same_tree x y ≡ true → x ≡ y
+same_tree-sound (leaf a) (leaf b) h = ap leaf (eqb-true a b h)
+same_tree-sound (leaf a) (node l r) h = absurd (false≢true h)
+same_tree-sound (node l r) (leaf b) h = absurd (false≢true h)
+same_tree-sound (node l r) (node m s) h =
+    let p = same_tree-sound l m (and_left _ _ h) in let q = same_tree-sound r s (and_right _ _ h) in cc
 
--- and those of one type by what they are made of
-pub monos-within_type : (x y : Tree) → cmp_types (type_of 26 x) (type_of 26 y) ≡ Equal → cmp_monos x y ≡ cmp_trees x y
-monos-within_type x y e = rw e
+-- products with the same left factor are in the order of their right ones
+pub trees-same_left : (l m r s : Tree) → l ≡ m → cmp_trees (node l r) (node m s) ≡ cmp_trees r s
+trees-same_left l m r s e = rw (e, tied_itself cmp_types_total (type_of 26 m), tied_itself cmp_trees_total m)
+
+-- a monomial beside itself
+pub monos-itself : (x y : Tree) → x ≡ y → cmp_monos x y ≡ Equal
+monos-itself x y e = rw (e) (tied_itself cmp_monos_total y)

@@ -1,5 +1,5 @@
 ghost use Rattle.std.specs.Prelude.{◌≡◌, ◌+◌, ◌<◌, ◌≤◌, IsTrue, IfOk, slice_get, slice_index, length, ℕ};
-ghost use Rattle.alb_mono.specs.Tree.{degree, node, leaf, leaf_list, cmp_monos, cmp_trees, same_tree, type_of, type_plus, are_below};
+ghost use Rattle.alb_mono.specs.Tree.{degree, node, leaf, leaf_list, cmp_monos, cmp_trees, cmp_types, same_tree, type_of, type_plus, are_below};
 ghost use Rattle.alb_mono.specs.Mono.{tree};
 
 use crate::{Multi, NoMemory};
@@ -98,6 +98,20 @@ impl Mono {
         }
     }
 
+    // The order of the types of two monomials. Where the degrees differ, nothing is counted.
+    fn cmp_their_types(&self, other: &Mono) -> Ordering
+        requires small { degree (tree self.now) ≤ 64 }
+        requires other_small { degree (tree other.now) ≤ 64 }
+        requires letters { IsTrue (are_below 26 (tree self.now)) }
+        requires other_letters { IsTrue (are_below 26 (tree other.now)) }
+        ensures { result ≡ cmp_types (type_of 26 (tree self.now)) (type_of 26 (tree other.now)) }
+    {
+        match self.degree().cmp(&other.degree()) {
+            Ordering::Equal => self.type_of(26).cmp_type(&other.type_of(26)),
+            order => order,
+        }
+    }
+
     /// The order of the monomials of one type: products go by the types of their left factors, then by the left factors,
     /// then by the right ones.
     pub fn cmp_same_type(&self, other: &Mono) -> Ordering
@@ -111,13 +125,18 @@ impl Mono {
             (Mono::Gen(a), Mono::Gen(b)) => a.cmp(b),
             (Mono::Gen(_), Mono::Prod(_, _)) => Ordering::Less,
             (Mono::Prod(_, _), Mono::Gen(_)) => Ordering::Greater,
-            (Mono::Prod(l, r), Mono::Prod(m, s)) => match l.type_of(26).cmp_type(&m.type_of(26)) {
-                Ordering::Equal => match l.cmp_same_type(m) {
-                    Ordering::Equal => r.cmp_same_type(s),
+            (Mono::Prod(l, r), Mono::Prod(m, s)) => {
+                if l.is_same(m) {
+                    return r.cmp_same_type(s);
+                }
+                match l.cmp_their_types(m) {
+                    Ordering::Equal => match l.cmp_same_type(m) {
+                        Ordering::Equal => r.cmp_same_type(s),
+                        order => order,
+                    },
                     order => order,
-                },
-                order => order,
-            },
+                }
+            }
         }
     }
 
@@ -129,11 +148,10 @@ impl Mono {
         requires other_letters { IsTrue (are_below 26 (tree other.now)) }
         ensures { result ≡ cmp_monos (tree self.now) (tree other.now) }
     {
-        match self.degree().cmp(&other.degree()) {
-            Ordering::Equal => {}
-            order => return order,
+        if self.is_same(other) {
+            return Ordering::Equal;
         }
-        match self.type_of(26).cmp_type(&other.type_of(26)) {
+        match self.cmp_their_types(other) {
             Ordering::Equal => self.cmp_same_type(other),
             order => order,
         }

@@ -1,11 +1,12 @@
 -- The laws of consequences.
-use Rattle.std.proofs.Common.{◌≡◌, ◌<◌, length, ℕ, ◌*◌, Bool, true, false, List, [], ◌∷◌, ◌++◌, map, sym, refl, ap, ◌∙◌, arith, ◌&&◌, append_assoc}
+use Rattle.std.proofs.Common.{◌≡◌, ◌<◌, length, ℕ, ◌*◌, true, List, [], ◌∷◌, ◌++◌, map, sym, refl, ap, ◌∙◌, arith, append_assoc}
 use Rattle.std.proofs.lemmas.List.{map-append}
 use Rattle.std.proofs.Math.Nat.{mul_assoc}
 use Rattle.std.specs.List.{flat_map}
-use Rattle.std.proofs.lemmas.Bool.{false≢true, eqb-true, eq-eqb}
+use Rattle.std.proofs.lemmas.Bool.{eq-eqb}
 use Rattle.gf_field.proofs.Mod.{same}
 use Rattle.alb_mono.specs.Tree.{same_tree, Tree, leaf, node}
+use Rattle.alb_mono.proofs.Order.{same_tree-sound}
 use Rattle.gf_sums.specs.Sums.{weigh, scale, reindex, Tells}
 use Rattle.gf_sums.proofs.Totals.{weigh-equal, weigh-append, weigh-scale}
 use Rattle.gf_sums.proofs.Alike.{Alike, alike-same, same-alike, equal, itself, turned, joined, append-alike, scale-alike, reindex-alike, weigh-reindex}
@@ -15,27 +16,12 @@ use Rattle.alb_poly.specs.Context.{beside, within}
 use Rattle.alb_poly.specs.Instance.{fill, Form, instance}
 use Rattle.alb_poly.specs.Consequence.{Item, form_at, IsItem, item_value, AreItems, IsConsequence}
 
-and_left : (a b : Bool) → (a && b) ≡ true → a ≡ true
-and_left true b h = refl
-and_left false b h = h
-
-and_right : (a b : Bool) → (a && b) ≡ true → b ≡ true
-and_right true b h = h
-and_right false b h = absurd (false≢true h)
-
-sound : (m n : Tree) → same_tree m n ≡ true → m ≡ n
-sound (leaf a) (leaf b) h = ap leaf (eqb-true a b h)
-sound (leaf a) (node l r) h = absurd (false≢true h)
-sound (node l r) (leaf b) h = absurd (false≢true h)
-sound (node l r) (node m s) h =
-    λ i. node (sound l m (and_left _ _ h) i) (sound r s (and_right _ _ h) i)
-
 whole : (m : Tree) → same_tree m m ≡ true
 whole (leaf a) = eq-eqb a a refl
 whole (node l r) = rw (whole l, whole r)
 
 pub tree_tells : Tells same_tree
-tree_tells = record { sound = sound; whole = whole }
+tree_tells = record { sound = same_tree-sound; whole = whole }
 
 pub alike_poly : {p : ℕ} {f g : Poly} → IsSamePoly p f g → Alike p f g
 alike_poly h = alike-same same_tree tree_tells h
