@@ -1,0 +1,6 @@
+pub mod Instances
+pub mod Offers
+pub mod Meaning
+pub mod Opened
+pub mod Asked
+pub mod Example

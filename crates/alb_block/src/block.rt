@@ -1,0 +1,72 @@
+ghost use Rattle.std.specs.Prelude.{◌≡◌, ◌+◌, ◌<◌, length, map, reverse, IfOk};
+ghost use Rattle.alb_mono.specs.Types.{IsTypeWithin};
+ghost use Rattle.alb_poly.specs.Rules.{forms};
+ghost use Rattle.alb_table.specs.PartView.{origin_view};
+ghost use Rattle.alb_table.specs.RightTable.{IsRightTable};
+ghost use Rattle.alb_block.specs.Instances.{columns_of};
+ghost use Rattle.alb_block.specs.Asked.{setting, AreRules, Answers};
+ghost use Rattle.alb_block.specs.Meaning.{IsBlockAt};
+ghost use Rattle.alb_block.specs.Opened.{Opens};
+
+use crate::error::BlockStop;
+use crate::offers::{Offers, offer_all};
+use alb_mono::Multi;
+use alb_poly::Rules;
+use alb_reduce::Reduced;
+use alb_subst::{Columns, ColumnsStop};
+use alb_table::{Origin, Tables};
+use std::alloc::Global;
+
+/// The block of a type.
+#[derive(Drop)]
+pub struct Block {
+    /// The type.
+    pub at: Multi,
+    /// The products of two basis elements that have the type, from the greatest to the least.
+    pub columns: Columns,
+    /// The reduced form of the span of all instances of the type, over the columns.
+    pub reduced: Reduced,
+    /// As many instances as there are pivots, with the same span.
+    pub origins: Vec<Origin>,
+}
+
+// The columns of a type.
+fn open_columns(alloc: Global, tables: &Tables, t: &Multi) -> Result<Columns, BlockStop>
+    ensures { Opens tables.now.parts t.now result }
+{
+    match Columns::open(alloc, tables, t) {
+        Ok(columns) => Ok(columns),
+        Err(ColumnsStop::TooWide { products }) => Err(BlockStop::TooWide {
+            at: Multi::of(t.counts()),
+            products,
+        }),
+        Err(ColumnsStop::NoMemory) => Err(BlockStop::NoMemory),
+    }
+}
+
+/// The reduced form of the span of all instances of the type `t`, which has one degree more than the table and is at most its
+/// target: `TooWide` exactly where the type has more than 4,096 products. For a right table the columns that are no pivots are
+/// the normal monomials of the type, and the reduced rows give the entries of the others.
+pub fn reduce_block(
+    alloc: Global,
+    rules: &Rules,
+    tables: &Tables,
+    t: &Multi,
+) -> Result<Block, BlockStop>
+    requires rules { AreRules rules.now tables.now }
+    requires next { IsTypeWithin tables.now.target (tables.now.degree + 1) t.now }
+    ensures answer { Answers (setting rules.now tables.now t.now) result }
+    ensures block { IsRightTable (forms rules.now) tables.now → IfOk result (λ b. IsBlockAt (forms rules.now) tables.now t.now b.reduced (map origin_view b.origins.items)) }
+{
+    let columns = open_columns(alloc, tables, t)?;
+    let Offers { echelon, origins } = offer_all(alloc, rules, tables, t, &columns)?;
+    let reduced = echelon.close()?;
+    prove!(tables.degree() > 0);
+    prove!(reduced.pivots().len() <= usize::MAX);
+    Ok(Block {
+        at: Multi::of(t.counts()),
+        columns,
+        reduced,
+        origins,
+    })
+}

@@ -1,0 +1,114 @@
+//! The offering of the instances of a type.
+ghost use Rattle.std.specs.Prelude.{◌≡◌, ℕ, ◌+◌, ◌<◌, ◌≤◌, ◌^◌, ◌++◌, [], ◌∷◌, false, true, length, map, IfOk, OnOk};
+ghost use Rattle.alb_mono.specs.Listing.{Each};
+ghost use Rattle.alb_mono.specs.Tree.{type_le};
+ghost use Rattle.alb_poly.specs.Rules.{forms};
+ghost use Rattle.alb_linear.specs.Identity.{IsLinearized};
+ghost use Rattle.alb_rows.specs.Row.{ColumnsBelow, IsRowOver};
+ghost use Rattle.alb_reduce.specs.Reduction.{Reduction};
+ghost use Rattle.alb_table.specs.PartView.{origin_view};
+ghost use Rattle.alb_block.specs.Instances.{Setting, IsInstance, columns_of};
+ghost use Rattle.alb_block.specs.Offers.{IsRowOf, AreKept, HasBefore, HasMore};
+ghost use Rattle.alb_block.specs.Asked.{setting, AreRules};
+
+use alb_mono::{Multi, NoMemory};
+use alb_poly::Rules;
+use alb_reduce::{Echelon, Offered};
+use alb_rows::Row;
+use alb_subst::{Columns, Instances, row_of};
+use alb_table::{Origin, Tables};
+use arrayvec::ArrayVec;
+use std::alloc::Global;
+
+// The rows of the instances that were offered, and the instances that gave them pivots.
+#[derive(Drop)]
+pub(crate) struct Offers {
+    pub echelon: Echelon,
+    pub origins: Vec<Origin>,
+}
+
+// Offers the row of an instance. A zero row is left out.
+fn offer_row(
+    offers: Offers,
+    row: Row,
+    identity: u32,
+    args: ArrayVec<u32, 8>,
+) -> Result<Offers, NoMemory>
+    requires row_in { IsRowOver offers.echelon.p row }
+    requires columns_in { ColumnsBelow offers.echelon.columns row }
+    requires no_recipes { offers.echelon.keeps_recipes ≡ false }
+    ensures kept { (s : Setting) → AreKept s offers.echelon (map origin_view offers.origins.items) → IsInstance s (identity, args.items) → IsRowOf s (identity, args.items) row → IfOk result (λ r. AreKept s r.echelon (map origin_view r.origins.items)) }
+    ensures more { (s : Setting) → AreKept s offers.echelon (map origin_view offers.origins.items) → IsRowOf s (identity, args.items) row → IfOk result (λ r. HasMore s offers.echelon r.echelon (identity, args.items)) }
+{
+    let Offers {
+        echelon,
+        mut origins,
+    } = offers;
+    if row.is_zero() {
+        return Ok(Offers { echelon, origins });
+    }
+    // no recipes are kept, so the tags need not differ
+    let (echelon, offered) = echelon.offer(row, identity)?;
+    match offered {
+        Offered::Dependent => Ok(Offers { echelon, origins }),
+        Offered::Pivot(_) => {
+            origins.push(Origin { identity, args })?;
+            Ok(Offers { echelon, origins })
+        }
+    }
+}
+
+// Offers all instances of the form k.
+fn offer_form(
+    alloc: Global,
+    rules: &Rules,
+    tables: &Tables,
+    t: &Multi,
+    columns: &Columns,
+    k: u32,
+    offers: Offers,
+) -> Result<Offers, NoMemory>
+    requires rules { AreRules rules.now tables.now }
+    requires long { length t.now ≡ length tables.now.target }
+    requires within { type_le t.now tables.now.target ≡ true }
+    requires columns_are { columns.now ≡ columns_of tables.now.parts t.now }
+    requires form { k < length rules.now.linears.items }
+    requires kept { AreKept (setting rules.now tables.now t.now) offers.echelon (map origin_view offers.origins.items) }
+    requires before { HasBefore (setting rules.now tables.now t.now) offers.echelon k }
+    ensures kept { IfOk result (λ r. AreKept (setting rules.now tables.now t.now) r.echelon (map origin_view r.origins.items)) }
+    ensures before { IfOk result (λ r. HasBefore (setting rules.now tables.now t.now) r.echelon (k + 1)) }
+{
+    let f = &rules.linears[k as usize];
+    let mut offers = offers;
+    let mut instances = Instances::open(alloc, tables, f, t)?;
+    while let Some(tuple) = instances.next(tables) {
+        let row = row_of(alloc, tables, f, tuple.as_slice(), columns)?;
+        offers = offer_row(offers, row, k, tuple)?;
+    }
+    Ok(offers)
+}
+
+// Offers all instances of all forms.
+pub(crate) fn offer_all(
+    alloc: Global,
+    rules: &Rules,
+    tables: &Tables,
+    t: &Multi,
+    columns: &Columns,
+) -> Result<Offers, NoMemory>
+    requires rules { AreRules rules.now tables.now }
+    requires long { length t.now ≡ length tables.now.target }
+    requires within { type_le t.now tables.now.target ≡ true }
+    requires columns_are { columns.now ≡ columns_of tables.now.parts t.now }
+    ensures kept { IfOk result (λ r. AreKept (setting rules.now tables.now t.now) r.echelon (map origin_view r.origins.items)) }
+    ensures before { IfOk result (λ r. HasBefore (setting rules.now tables.now t.now) r.echelon (length rules.now.linears.items)) }
+{
+    let mut offers = Offers {
+        echelon: Echelon::new(alloc, *tables.field(), columns.len(), false),
+        origins: Vec::new(alloc),
+    };
+    for k in 0..rules.linears.len() {
+        offers = offer_form(alloc, rules, tables, t, columns, k as u32, offers)?;
+    }
+    Ok(offers)
+}

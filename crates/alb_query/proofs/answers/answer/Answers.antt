@@ -1,0 +1,55 @@
+use Rattle.std.proofs.Common.{◌≤◌, ◌<◌, ℕ, length, sym, subst, arith}
+use Rattle.std.specs.Prelude.{IsTrue}
+use Rattle.alb_mono.specs.Tree.{Tree, are_below}
+use Rattle.alb_poly.specs.Poly.{greatest_degree}
+use Rattle.alb_poly.specs.Rules.{forms}
+use Rattle.alb_table.proofs.FirstLemmas.{few_generators}
+use Rattle.alb_table.proofs.GeneratorLemmas.{above_one}
+use Rattle.alb_table.specs.PartView.{mono_at}
+use Rattle.alb_query.specs.Answer.{IsNormalForm}
+use Rattle.alb_query.proofs.AnswerLemmas.{all-terms, all-within, not-built, zero-answer, not-zero-answer, not-both}
+use Rattle.alb_query.proofs.ValueLemmas.{zero-consequence, consequence-zero, value-normal_form, row-residues}
+use Rattle.alb_query.proofs.answers.answer.Goals as goal
+
+pub misfit-requires-clause-few : goal.misfit-requires-clause-few
+misfit-requires-clause-few c = let n = few_generators c.args.tables.now.target c.target.ensures.table.goal in rw c.target.ensures.value (omega arith)
+
+pub misfit-requires-clause-known : goal.misfit-requires-clause-known
+misfit-requires-clause-known c =
+    rw c.target.ensures.value (all-terms (λ (t : ℕ × Tree). IsTrue (are_below (length c.args.tables.now.target) t.1)) c.terms.result.now c.args.g.now c.terms.ensures.value c.requires.known)
+
+pub returns-then-degree : goal.returns-then-degree
+returns-then-degree c =
+    let m = rw (c.target.ensures.value, c.terms.ensures.value) at c.in_default.ensures in
+    not-built c.args.tables.now.p (forms c.args.rules.now) c.args.tables.now.target c.args.tables.now.degree c.args.g.now m c.degree-degree.result c.degree-degree.ensures.value
+    (rw (← c.degree.ensures.value) c.if-degree.true)
+
+pub returns-then-is_zero : goal.returns-then-is_zero
+returns-then-is_zero c =
+    let m = rw (c.target.ensures.value, c.terms.ensures.value) at c.in_default.ensures in
+    let t = c.args.tables.now in
+    let h : greatest_degree c.args.g.now ≤ t.degree = let x = c.degree-degree.ensures.value in let y = c.degree.ensures.value in let z = c.if-degree.false in omega arith in
+    let pos : 0 < t.p = let o = above_one t c.target.ensures.table in omega arith in
+    zero-answer t.p (forms c.args.rules.now) t.target t.degree c.args.g.now m h
+    (zero-consequence (forms c.args.rules.now) t c.target.ensures.table c.requires.right pos c.requires.multilinear c.requires.high c.args.g.now (all-within t.target t.degree c.args.g.now m h)
+    c.in_ok-value.value c.in_ok-value.ensures.row c.in_ok-value.ensures.value (c.is_zero.ensures.value.0 c.if-is_zero.true))
+
+pub from_terms-requires : goal.from_terms-requires
+from_terms-requires c = rw c.field.ensures
+    (row-residues c.args.tables.now.p (mono_at c.args.tables.now.parts) c.in_ok-list.list.items c.in_ok-value.value c.in_ok-list.ensures.value c.in_ok-value.ensures.row.row)
+
+pub returns : goal.returns
+returns c =
+    let m = rw (c.target.ensures.value, c.terms.ensures.value) at c.in_default.ensures in
+    let t = c.args.tables.now in
+    let h : greatest_degree c.args.g.now ≤ t.degree = let x = c.degree-degree.ensures.value in let y = c.degree.ensures.value in let z = c.if-degree.false in omega arith in
+    let pos : 0 < t.p = let o = above_one t c.target.ensures.table in omega arith in
+    let w = all-within t.target t.degree c.args.g.now m h in
+    let n = value-normal_form (forms c.args.rules.now) t c.target.ensures.table c.requires.right pos c.requires.multilinear c.requires.high c.args.g.now w
+    c.in_ok-value.value c.in_ok-value.ensures.row c.in_ok-value.ensures.value in
+    let e = rw (c.field.ensures, c.in_ok-list.ensures.value) at c.in_ok-from_terms.ensures.value in
+    not-zero-answer t.p (forms c.args.rules.now) t.target t.degree c.args.g.now m h
+    (λ q. (let z = consequence-zero (forms c.args.rules.now) t c.target.ensures.table c.requires.right pos c.requires.multilinear c.requires.high c.args.g.now w
+    c.in_ok-value.value c.in_ok-value.ensures.row c.in_ok-value.ensures.value q in
+    not-both _ c.if-is_zero.false (c.is_zero.ensures.value.1 z)))
+    c.in_ok-from_terms.field-0 (subst (IsNormalForm t.p (forms c.args.rules.now) c.args.g.now) (sym e) n)

@@ -1,0 +1,11 @@
+pub mod TupleLemmas
+pub mod TuplesListing
+pub mod NextLemmas
+pub mod DistinctLemmas
+pub mod RangeLemmas
+pub mod TupleLaw
+pub mod ComeLemmas
+pub mod ProductLemmas
+pub mod SumLemmas
+pub mod InstanceLemmas
+pub mod ExampleLemmas

@@ -1,0 +1,19 @@
+//! What the block of a type is made of: its columns, the tuples of basis elements that an identity is tried at, and the rows of
+//! the instances.
+#![tactic(auto)]
+
+mod columns;
+mod error;
+mod instances;
+mod products;
+mod range;
+mod row;
+mod sums;
+#[cfg(test)]
+mod tests;
+mod tuples;
+
+pub use columns::Columns;
+pub use error::ColumnsStop;
+pub use instances::Instances;
+pub use row::row_of;

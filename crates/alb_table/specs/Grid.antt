@@ -1,0 +1,44 @@
+-- Products in rectangles.
+use Rattle.std.specs.Prelude.{◌≡◌, ℕ, ◌+◌, ◌-◌, ◌*◌, ◌≤◌, ◌==◌, nat_le, nat_lt, Bool, ◌&&◌, if◌then◌else◌, List, [], ◌∷◌, map, Option, Some, None}
+use Rattle.std.specs.List.{flat_map}
+use Rattle.alb_mono.specs.Types.{rising}
+use Rattle.alb_table.specs.declared.grid.Grid.{Grid}
+
+abbrev pub same_pair : ℕ × ℕ → ℕ × ℕ → Bool
+same_pair x k = x.0 == k.0 && x.1 == k.1
+
+-- all pairs of n numbers from a on and m numbers from b on, ascending
+abbrev pub rectangle : ℕ → ℕ → ℕ → ℕ → List (ℕ × ℕ)
+rectangle a n b m = flat_map (λ i. map (λ j. (i, j)) (rising b m)) (rising a n)
+
+abbrev pub cells_of : Grid → List (ℕ × ℕ)
+cells_of g = rectangle g.left g.lefts g.right g.rights
+
+-- the entry beside a key
+abbrev pub find_entry : {E : Type 0} → ℕ × ℕ → List (ℕ × ℕ) → List E → Option E
+find_entry k [] es = None
+find_entry k (x ∷ xs) [] = None
+find_entry k (x ∷ xs) (e ∷ es) = if same_pair x k then Some e else find_entry k xs es
+
+-- each rectangle begins where those before it end
+abbrev pub OffsetsFrom : ℕ → List Grid → Type 0
+OffsetsFrom n [] = Unit {0}
+OffsetsFrom n (g ∷ gs) = (g.offset ≡ n) × OffsetsFrom (n + g.lefts * g.rights) gs
+
+-- the left numbers of each rectangle stand after those of the rectangles before it, which end at n
+abbrev pub Rises : ℕ → List Grid → Type 0
+Rises n [] = Unit {0}
+Rises n (g ∷ gs) = (n ≤ g.left) × Rises (g.left + g.lefts) gs
+
+-- the pair stands in the rectangle
+abbrev pub covers : Grid → ℕ → ℕ → Bool
+covers g b c = (nat_le g.left b && nat_lt b (g.left + g.lefts)) && (nat_le g.right c && nat_lt c (g.right + g.rights))
+
+-- the first rectangle with the pair
+abbrev pub first_cover : ℕ → ℕ → List Grid → Option Grid
+first_cover b c [] = None
+first_cover b c (g ∷ gs) = if covers g b c then Some g else first_cover b c gs
+
+-- the place of the pair in the rectangle, counted from the first product of the type
+abbrev pub place_in : Grid → ℕ → ℕ → ℕ
+place_in g b c = g.offset + (b - g.left) * g.rights + (c - g.right)

@@ -1,0 +1,73 @@
+-- Laws that functions of `laws` state.
+use Rattle.std.specs.Prelude.{◌≡◌, ◌↔◌, ℕ, ◌<◌, ◌≤◌, ◌+◌, List, [], length, sum, ◌∷◌}
+use Rattle.std.specs.List.{flat_map}
+use Rattle.alb_mono.specs.Listing.{Each}
+use Rattle.alb_mono.specs.Tree.{Tree, leaf, node, type_of}
+use Rattle.alb_poly.specs.Poly.{Poly, IsSamePoly, part}
+use Rattle.alb_poly.specs.Instance.{Form}
+use Rattle.alb_poly.specs.Consequence.{Item, item_value, AreItems, IsConsequence, AreMultilinear}
+use Rattle.alb_table.specs.Leading.{IsNormal, IsCongruent}
+use Rattle.alb_table.specs.Right.{AreHigh, poly_value, IsOfType, IsWithin, IsBasisTo, IsTypeTo, IsRight}
+use Rattle.alb_table.specs.Block.{Grows}
+use Rattle.alb_table.specs.RightTable.{IsRightTable}
+use Rattle.alb_table.specs.Table.{IsTarget, first_table}
+use Rattle.gf_field.specs.Primes.{IsInTable}
+
+-- both factors of a normal product are normal
+abbrev pub FactorsAreNormal : Type 0
+FactorsAreNormal = (p : ℕ) (fs : List Form) (l r : Tree) → IsNormal p fs (node l r) → IsNormal p fs l × IsNormal p fs r
+
+-- what the values in a right table say of the polynomials within it
+pub record DecidesByValues (p : ℕ) (fs : List Form) (entry : Tree → Tree → Poly) (g : Poly) : Type 0 where
+  pub normal : Each (λ t. IsNormal p fs t.1) (poly_value entry g)
+  pub congruent : IsCongruent p fs g (poly_value entry g)
+  pub unique : (h : Poly) → Each (λ t. IsNormal p fs t.1) h → IsCongruent p fs g h → IsSamePoly p h (poly_value entry g)
+  pub zero : IsSamePoly p (poly_value entry g) [] ↔ IsConsequence p fs g
+
+-- For a polynomial within a right table its value is the one combination of normal monomials that differs from it by a
+-- consequence, and is zero exactly where the polynomial is a consequence.
+abbrev pub ValuesDecide : Type 0
+ValuesDecide = (p : ℕ) (fs : List Form) (target : List ℕ) (d : ℕ) (basis : List ℕ → List Tree) (entry : Tree → Tree → Poly) (g : Poly)
+    → 0 < p → AreMultilinear fs → AreHigh fs → IsRight p fs target d basis entry → Each (λ t. IsWithin target d t.1) g → DecidesByValues p fs entry g
+
+-- two tables have the same bases, and equal entries wherever the product is within
+pub record AreSameTables (p : ℕ) (fs : List Form) (target : List ℕ) (d : ℕ) (basis basis' : List ℕ → List Tree) (entry entry' : Tree → Tree → Poly) : Type 0 where
+  pub bases : (t : List ℕ) → IsTypeTo target d t → basis t ≡ basis' t
+  pub entries : (b c : Tree) → IsBasisTo p fs target d b → IsBasisTo p fs target d c → IsWithin target d (node b c) → IsSamePoly p (entry b c) (entry' b c)
+
+-- the field, the identities, the target and the degree determine the right table
+abbrev pub RightTableIsUnique : Type 0
+RightTableIsUnique = (p : ℕ) (fs : List Form) (target : List ℕ) (d : ℕ) (basis basis' : List ℕ → List Tree) (entry entry' : Tree → Tree → Poly)
+    → 0 < p → AreMultilinear fs → AreHigh fs → IsRight p fs target d basis entry → IsRight p fs target d basis' entry'
+    → AreSameTables p fs target d basis basis' entry entry'
+
+-- a right table that grows by the blocks of the next degree is right to that degree
+abbrev pub RightTablesGrow : Type 0
+RightTablesGrow = (p : ℕ) (fs : List Form) (target : List ℕ) (d : ℕ) (basis basis' : List ℕ → List Tree) (entry entry' : Tree → Tree → Poly)
+    → 0 < p → AreMultilinear fs → AreHigh fs → 1 ≤ d → IsRight p fs target d basis entry → Grows p fs target d basis entry basis' entry'
+    → IsRight p fs target (d + 1) basis' entry'
+
+-- each type of degree 1 has its generator, and the type of degree 0 nothing
+pub record IsFirst (target : List ℕ) (basis : List ℕ → List Tree) : Type 0 where
+  pub generators : (t : List ℕ) → IsTypeTo target 1 t → sum t ≡ 1 → (k : ℕ) × IsOfType t (leaf k) × (basis t ≡ leaf k ∷ [])
+  pub none : (t : List ℕ) → sum t ≡ 0 → basis t ≡ []
+
+-- the table of the generators, with whatever entries, is right to degree 1
+abbrev pub FirstTableIsRight : Type 0
+FirstTableIsRight = (p : ℕ) (fs : List Form) (target : List ℕ) (basis : List ℕ → List Tree) (entry : Tree → Tree → Poly)
+    → AreMultilinear fs → AreHigh fs → IsFirst target basis → IsRight p fs target 1 basis entry
+
+-- `g` is a consequence by items all of whose monomials have the type `t`
+pub record IsConsequenceOfType (p : ℕ) (fs : List Form) (t : List ℕ) (g : Poly) : Type 0 where
+  pub items : List Item
+  pub are : AreItems fs items
+  pub types : Each (λ it. Each (λ s. type_of (length t) s.1 ≡ t) (item_value fs it)) items
+  pub same : IsSamePoly p g (flat_map (item_value fs) items)
+
+-- each homogeneous part of a consequence is a consequence, by items of its type
+abbrev pub PartsAreConsequences : Type 0
+PartsAreConsequences = (p : ℕ) (fs : List Form) (t : List ℕ) (g : Poly) → AreMultilinear fs → IsConsequence p fs g → IsConsequenceOfType p fs t (part t g)
+
+-- the table of degree 1 is right, for whatever identities of degree 2 or more
+abbrev pub GeneratorsAreRight : Type 0
+GeneratorsAreRight = (p : ℕ) (target : List ℕ) (fs : List Form) → IsInTable p → IsTarget target → AreMultilinear fs → AreHigh fs → IsRightTable fs (first_table p target)

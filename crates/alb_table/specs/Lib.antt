@@ -1,0 +1,16 @@
+pub mod Grid
+pub mod PartView
+pub mod Entry
+pub mod Table
+pub mod Value
+pub mod Stored
+pub mod Views
+pub mod Example
+pub mod Leading
+pub mod Right
+pub mod Block
+pub mod Columns
+pub mod Laws
+pub mod Limits
+pub mod RightTable
+pub mod End

@@ -1,0 +1,101 @@
+-- Right tables over monomials, and their values. A table gives each type its basis, and each product of two basis monomials its
+-- entry, a combination of basis monomials.
+use Rattle.std.specs.Prelude.{◌≡◌, ℕ, suc, if◌then◌else◌, ◌<◌, ◌≤◌, IsTrue, List, [], ◌∷◌, length, slice_index_or, sum}
+use Rattle.std.specs.List.{Contains, IsDistinct}
+use Rattle.std.specs.List.Sorted.{IsStrictlySortedBy}
+use Rattle.gf_sums.specs.Sums.{Comb, reindex}
+use Rattle.alb_mono.specs.Listing.{Each}
+use Rattle.alb_mono.specs.Tree.{Tree, leaf, node, degree, type_of, type_le, are_below, cmp_trees, same_tree}
+use Rattle.alb_poly.specs.Algebra.{evaluate, evaluate_poly, unit}
+use Rattle.alb_poly.specs.Poly.{Poly}
+use Rattle.alb_poly.specs.Instance.{Form}
+use Rattle.alb_table.specs.Leading.{SameType, IsNormal, IsCongruent}
+
+-- every form has degree 2 or more
+abbrev pub AreHigh : List Form → Type 0
+AreHigh fs = Each (λ f. 2 ≤ f.degree) fs
+
+-- ---- values
+
+-- the value of a monomial by the entries of a table: a generator is itself
+abbrev pub mono_value : (Tree → Tree → Poly) → Tree → Poly
+mono_value entry m = evaluate entry (λ k. unit (leaf k)) m
+
+-- the value of a polynomial
+abbrev pub poly_value : (Tree → Tree → Poly) → Poly → Poly
+poly_value entry f = evaluate_poly entry (λ k. unit (leaf k)) f
+
+-- ---- entries
+
+-- a basis monomial of the type of `m`
+pub record IsPart (Basis : Tree → Type 0) (m x : Tree) : Type 0 where
+  pub basis : Basis x
+  pub type : SameType x m
+
+-- `e` stands for `m`: a combination of basis monomials of its type that differs from it by a consequence
+pub record StandsFor (p : ℕ) (fs : List Form) (Basis : Tree → Type 0) (m : Tree) (e : Poly) : Type 0 where
+  pub parts : Each (λ t. IsPart Basis m t.1) e
+  pub congruent : IsCongruent p fs (unit m) e
+
+-- a normal monomial within the table
+pub record IsBasis (p : ℕ) (fs : List Form) (Within : Tree → Type 0) (x : Tree) : Type 0 where
+  pub within : Within x
+  pub normal : IsNormal p fs x
+
+-- ---- right tables
+
+-- the monomial has the type `t`
+pub record IsOfType (t : List ℕ) (m : Tree) : Type 0 where
+  pub below : IsTrue (are_below (length t) m)
+  pub counts : type_of (length t) m ≡ t
+
+-- the type is at most the target, and the degree at most `d`
+pub record IsWithin (target : List ℕ) (d : ℕ) (m : Tree) : Type 0 where
+  pub below : IsTrue (are_below (length target) m)
+  pub type : IsTrue (type_le (type_of (length target) m) target)
+  pub degree : degree m ≤ d
+
+-- a basis monomial of the table of degree `d`
+abbrev pub IsBasisTo : ℕ → List Form → List ℕ → ℕ → Tree → Type 0
+IsBasisTo p fs target d x = IsBasis p fs (IsWithin target d) x
+
+-- the ascending list of the normal monomials of type `t`
+pub record IsBasisOf (p : ℕ) (fs : List Form) (t : List ℕ) (ms : List Tree) : Type 0 where
+  pub ascends : IsStrictlySortedBy cmp_trees ms
+  pub types : Each (IsOfType t) ms
+  pub normal : Each (IsNormal p fs) ms
+  pub whole : (m : Tree) → IsOfType t m → IsNormal p fs m → Contains ms m
+
+-- a type of the table of degree `d`
+pub record IsTypeTo (target : List ℕ) (d : ℕ) (t : List ℕ) : Type 0 where
+  pub counts : length t ≡ length target
+  pub le : IsTrue (type_le t target)
+  pub degree : sum t ≤ d
+
+-- A right table to degree `d`: each type has its basis, and the entry of two basis monomials stands for their product.
+pub record IsRight (p : ℕ) (fs : List Form) (target : List ℕ) (d : ℕ) (basis : List ℕ → List Tree) (entry : Tree → Tree → Poly) : Type 0 where
+  pub bases : (t : List ℕ) → IsTypeTo target d t → IsBasisOf p fs t (basis t)
+  pub entries : (b c : Tree) → IsBasisTo p fs target d b → IsBasisTo p fs target d c → IsWithin target d (node b c)
+      → StandsFor p fs (IsBasisTo p fs target d) (node b c) (entry b c)
+
+-- ---- a table over the numbers of its basis monomials
+
+-- the basis monomial of a number
+abbrev pub mono_of : List Tree → ℕ → Tree
+mono_of monos b = slice_index_or monos b (leaf 0)
+
+-- the first place of a monomial
+abbrev pub place_of : List Tree → Tree → ℕ
+place_of [] x = 0
+place_of (m ∷ monos) x = if same_tree m x then 0 else suc (place_of monos x)
+
+-- the entries over monomials, by those over numbers
+abbrev pub entry_by : List Tree → (ℕ → ℕ → Comb ℕ) → Tree → Tree → Poly
+entry_by monos product x y = reindex (mono_of monos) (product (place_of monos x) (place_of monos y))
+
+-- the monomials differ, entries have numbers of basis monomials, and the first `n` basis monomials are the generators
+pub record IsNumbered (n : ℕ) (monos : List Tree) (product : ℕ → ℕ → Comb ℕ) : Type 0 where
+  pub different : IsDistinct same_tree monos
+  pub entries : (b c : ℕ) → b < length monos → c < length monos → Each (λ t. t.1 < length monos) (product b c)
+  pub many : n ≤ length monos
+  pub generators : (k : ℕ) → k < n → mono_of monos k ≡ leaf k

@@ -1,0 +1,32 @@
+-- Right tables: those of the relatively free algebra of some identities.
+use Rattle.std.specs.Prelude.{ℕ, ◌-◌, ◌≤◌, List, map, sum}
+use Rattle.alb_mono.specs.Tree.{Tree}
+use Rattle.alb_mono.specs.Types.{rising}
+use Rattle.alb_poly.specs.Poly.{Poly}
+use Rattle.alb_poly.specs.Instance.{Form}
+use Rattle.alb_table.specs.Block.{AreOriginsAt}
+use Rattle.alb_table.specs.Entry.{table_product}
+use Rattle.alb_table.specs.Limits.{IsWithinLimits}
+use Rattle.alb_table.specs.PartView.{PartView, first_of, dim_of, origins_at, monos, mono_at}
+use Rattle.alb_table.specs.Right.{IsRight, entry_by}
+use Rattle.alb_table.specs.Table.{Table, CoversType}
+
+-- the basis monomials of a type
+abbrev pub basis_monos : List PartView → List ℕ → List Tree
+basis_monos parts w = map (mono_at parts) (rising (first_of parts w) (dim_of parts w))
+
+-- the entry of two basis monomials
+abbrev pub mono_entry : List PartView → Tree → Tree → Poly
+mono_entry parts = entry_by (monos parts) (table_product parts)
+
+-- an instance, its basis elements by their monomials
+abbrev pub instance_at : List PartView → ℕ × List ℕ → ℕ × List Tree
+instance_at parts o = (o.0, map (mono_at parts) o.1)
+
+-- A RIGHT TABLE: its bases are the normal monomials, its entries stand for the products of these, the origins of each type are
+-- as many instances as the type has pivots, with the span of all its instances, and no limit is passed.
+pub record IsRightTable (fs : List Form) (t : Table) : Type 0 where
+  pub right : IsRight t.p fs t.target t.degree (basis_monos t.parts) (mono_entry t.parts)
+  pub origins : (w : List ℕ) → CoversType t w → 2 ≤ sum w
+      → AreOriginsAt t.p fs t.target (sum w - 1) (mono_entry t.parts) w (map (instance_at t.parts) (origins_at t.parts w))
+  pub limits : IsWithinLimits t

@@ -1,0 +1,40 @@
+//! The laws of normal monomials and of right tables (the multiplication tables of Jacobs, *The Albert nonassociative
+//! algebra system*, 1994, over monomials). Each is the contract of a function that does nothing.
+
+ghost use Rattle.alb_table.specs.Laws.{FactorsAreNormal, PartsAreConsequences, ValuesDecide, RightTableIsUnique, RightTablesGrow, FirstTableIsRight, GeneratorsAreRight};
+
+/// Both factors of a normal product are normal.
+pub fn factors_are_normal()
+    ensures { FactorsAreNormal }
+{}
+
+/// Each homogeneous part of a consequence is a consequence, by items of its type.
+pub fn parts_are_consequences()
+    ensures { PartsAreConsequences }
+{}
+
+/// In a right table the value of a polynomial is its one normal form, and is zero exactly where the polynomial follows from
+/// the identities.
+pub fn values_decide()
+    ensures { ValuesDecide }
+{}
+
+/// The field, the identities, the target and the degree determine the right table.
+pub fn right_table_is_unique()
+    ensures { RightTableIsUnique }
+{}
+
+/// A right table that grows by the blocks of the next degree is right to that degree.
+pub fn right_tables_grow()
+    ensures { RightTablesGrow }
+{}
+
+/// The table of the generators is right to degree 1.
+pub fn first_table_is_right()
+    ensures { FirstTableIsRight }
+{}
+
+/// `Tables::first` gives a right table.
+pub fn generators_are_right()
+    ensures { GeneratorsAreRight }
+{}
