@@ -5,3 +5,6 @@ pub mod ColumnLemmas
 pub mod InstanceLemmas
 pub mod MeaningLemmas
 pub mod ExampleLemmas
+pub mod Vectors
+pub mod Reductions
+pub mod Existence

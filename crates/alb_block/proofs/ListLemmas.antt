@@ -75,6 +75,14 @@ in-run k zero b h = absurd h
 in-run k (suc n) b (inl e) = (omega (arith, e), omega (arith, e))
 in-run k (suc n) b (inr h) = let w = in-run (suc k) n b h in (omega (arith, w.0), omega (arith, w.1))
 
+-- a number of a run stands in it
+pub run-in : (k n b : ℕ) → k ≤ b → b < k + n → IsIn b (rising k n)
+run-in k zero b l m = absurd (omega arith)
+run-in k (suc n) b l m = elim (first k b l) [ inl e ↦ inl e | inr h ↦ inr (run-in (suc k) n b h (omega arith)) ]
+  where
+    first : (k b : ℕ) → k ≤ b → (b ≡ k) ⊎ (suc k ≤ b)
+    first k b h = grind arith
+
 -- places
 
 pub in_place : {X : Type 0} (x : X) (xs : List X) → IsIn x xs → (k : ℕ) × (k < length xs) × ((d : X) → get_or xs k d ≡ x)

@@ -277,7 +277,7 @@ vector-at [] f j l = absurd (omega arith)
 vector-at (q ∷ cols) f zero l = refl
 vector-at (q ∷ cols) f (suc j) l = vector-at cols f j (omega arith)
 
-vector-past : (cols : List (ℕ × ℕ)) (f : Comb (ℕ × ℕ)) (j : ℕ) → length cols ≤ j → vector_over cols f j ≡ 0
+pub vector-past : (cols : List (ℕ × ℕ)) (f : Comb (ℕ × ℕ)) (j : ℕ) → length cols ≤ j → vector_over cols f j ≡ 0
 vector-past [] f j l = refl
 vector-past (q ∷ cols) f zero l = absurd (omega arith)
 vector-past (q ∷ cols) f (suc j) l = vector-past cols f j (omega arith)

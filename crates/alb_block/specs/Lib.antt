@@ -4,3 +4,4 @@ pub mod Meaning
 pub mod Opened
 pub mod Asked
 pub mod Example
+pub mod View

@@ -11,14 +11,14 @@ use Rattle.alb_mono.specs.Letters.{AreLetters}
 use Rattle.alb_mono.specs.Tree.{Tree, leaf, node, degree, are_below}
 use Rattle.alb_mono.specs.declared.side.Side.{Side}
 use Rattle.alb_mono.specs.declared.side.Side.TheVariants.{Left, Right}
-use Rattle.alb_print.specs.Text.{mono_text}
+use Rattle.alb_print.specs.Text.{mono_text, named}
 use Rattle.alb_print.proofs.Monomials.{below_from}
 use Rattle.alb_print.proofs.Spellings.{monomials-spell_themselves}
 use Rattle.alb_deriv.specs.Derivation.{Line, Instance, Times, Sum}
 use Rattle.alb_evidence.specs.Words.{words}
 use Rattle.alb_evidence.specs.Block.{mono, monos, mono_of_tokens, spelled, items, instance_of, times_of, sum_of, kind_of, numbered, line_of}
 use Rattle.alb_evidence.specs.Laws.{AreMonos, AreItems, IsFit}
-use Rattle.alb_evidence.specs.Texts.{named, spaced_mono, side_text, item_text, kind_text}
+use Rattle.alb_evidence.specs.Texts.{spaced_mono, side_text, item_text, kind_text}
 use Rattle.alb_evidence.proofs.WordLemmas.{both}
 use Rattle.alb_evidence.proofs.Written.{IsWord, AreWords, spaced, are_plain, is_plain, plain-append, decimal-numeral, numeral-word, number-read, item_word, item-read, item-is_word, words-spaced}
 

@@ -5,7 +5,7 @@ use Rattle.std.specs.Fmt.{decimal}
 use Rattle.alb_mono.specs.Tree.{Tree}
 use Rattle.alb_mono.specs.declared.side.Side.{Side}
 use Rattle.alb_mono.specs.declared.side.Side.TheVariants.{Left, Right}
-use Rattle.alb_print.specs.Text.{mono_text, type_text, is_negative, absolute}
+use Rattle.alb_print.specs.Text.{named, mono_text, type_text, is_negative, absolute}
 use Rattle.alb_deriv.specs.Derivation.{Line, Instance, Times, Sum}
 use Rattle.alb_check.specs.Raw.{Raw}
 use Rattle.alb_check.specs.declared.raw.RawEntry.{RawEntry}
@@ -14,10 +14,6 @@ use Rattle.alb_check.specs.declared.raw.RawEntry.{RawEntry}
 unfoldable pub counted : {A : Type 0} → (ℕ → A → List ℕ) → ℕ → List A → List ℕ
 counted text k [] = []
 counted text k (x ∷ xs) = text k x ++ counted text (k + 1) xs
-
--- a word and a number
-abbrev pub named : List ℕ → ℕ → List ℕ
-named word n = word ++ decimal n
 
 -- a signed residue; 1 is written too
 abbrev pub signed_text : ℕ → ℕ → List ℕ

@@ -7,11 +7,11 @@ ghost use Rattle.alb_io.specs.Puts.{Puts};
 ghost use Rattle.alb_check.specs.Raw.{raw, IsRaw};
 ghost use Rattle.alb_evidence.specs.Texts.{counted, typed, element_text, generator_text, entry_text, table_text};
 
-use crate::pieces::{write_named, write_signed};
+use crate::pieces::write_signed;
 use alb_check::{RawEntry, RawTable};
 use alb_io::{Sink, WriteFault, put_all};
 use alb_mono::{Letters, Multi};
-use alb_print::write_type;
+use alb_print::{write_named, write_type};
 use gf_field::Field;
 
 // Writes a type behind a space, and ends the line.

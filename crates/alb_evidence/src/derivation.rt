@@ -6,15 +6,15 @@ ghost use Rattle.alb_io.specs.Causes.{HasCause};
 ghost use Rattle.alb_io.specs.Puts.{Puts};
 ghost use Rattle.alb_mono.specs.Mono.{tree};
 ghost use Rattle.alb_mono.specs.Tree.{are_below};
-ghost use Rattle.alb_print.specs.Text.{mono_text};
+ghost use Rattle.alb_print.specs.Text.{mono_text, named};
 ghost use Rattle.alb_deriv.specs.Views.{line, IsLine};
-ghost use Rattle.alb_evidence.specs.Texts.{named, counted, spaced_mono, side_text, item_text, kind_text, line_text, lines_text};
+ghost use Rattle.alb_evidence.specs.Texts.{counted, spaced_mono, side_text, item_text, kind_text, line_text, lines_text};
 
-use crate::pieces::{write_count, write_named, write_signed};
+use crate::pieces::write_signed;
 use alb_deriv::Line;
 use alb_io::{Sink, WriteFault, put_all};
 use alb_mono::{Letters, Mono, Side};
-use alb_print::write_mono;
+use alb_print::{write_count, write_mono, write_named};
 use gf_field::{Field, Residue};
 
 // Writes a monomial behind a space.

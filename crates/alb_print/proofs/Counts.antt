@@ -1,17 +1,13 @@
 -- The counts of a type, joined by commas.
-use Rattle.std.proofs.Common.{◌≡◌, ℕ, List, [], ◌∷◌, ◌++◌, ◌+◌, ◌<◌, length, drop, get_or, map, arith, ap, ◌∙◌}
+use Rattle.std.proofs.Common.{◌≡◌, ℕ, List, [], ◌∷◌, ◌++◌, ◌<◌, length, drop, get_or, map, arith, ap, ◌∙◌}
 use Rattle.std.specs.Fmt.{decimal}
 use Rattle.std.specs.List.{flat_map, join_with_byte}
-use Rattle.std.proofs.lemmas.List.{append-nil, drop_more}
+use Rattle.std.proofs.lemmas.List.{append-nil}
 use Rattle.std.proofs.lemmas.List.Concat.{flat_map-cons}
 
 -- a count behind another one
 abbrev pub later_count : ℕ → List ℕ
 later_count n = 44 ∷ decimal n
-
-pub later_counts-cons : (ns : List ℕ) (i : ℕ) → i < length ns
-    → flat_map later_count (drop i ns) ≡ later_count (get_or ns i 0) ++ flat_map later_count (drop (i + 1) ns)
-later_counts-cons ns i h = ap (flat_map later_count) (drop_more ns i 0 h) ∙ flat_map-cons later_count (get_or ns i 0) (drop (i + 1) ns)
 
 joined : (n : ℕ) (ns : List ℕ) → decimal n ++ flat_map later_count ns ≡ join_with_byte 44 (decimal n ∷ map decimal ns)
 joined n [] = append-nil (decimal n)

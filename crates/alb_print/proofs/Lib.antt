@@ -1,6 +1,7 @@
 pub mod Counts
 pub mod Monomials
 pub mod Numbers
+pub mod Pieces
 pub mod Polynomials
 pub mod Spelled
 pub mod Spellings

@@ -5,6 +5,10 @@ use Rattle.std.specs.Fmt.{decimal}
 use Rattle.alb_mono.specs.Tree.{Tree, leaf, node}
 use Rattle.alb_poly.specs.Poly.{Poly}
 
+-- a word and a number
+abbrev pub named : List ℕ → ℕ → List ℕ
+named word n = word ++ decimal n
+
 -- in round brackets, where `inner` says so
 abbrev pub in_brackets : Bool → List ℕ → List ℕ
 in_brackets true text = 40 ∷ text ++ 41 ∷ []
@@ -22,9 +26,20 @@ is_negative p r = nat_lt p (2 * r)
 abbrev pub absolute : ℕ → ℕ → ℕ
 absolute p r = if is_negative p r then p - r else r
 
--- a term without its sign; 1 is left out
+-- the absolute value of a coefficient; 1 is left out
+abbrev pub value_text : ℕ → ℕ → List ℕ
+value_text p r = if absolute p r == 1 then [] else decimal (absolute p r)
+
+-- a coefficient with its sign: of the first term, and of a term behind another one
+abbrev pub leading_coefficient_text : ℕ → ℕ → List ℕ
+leading_coefficient_text p r = (if is_negative p r then codes "-" else []) ++ value_text p r
+
+abbrev pub later_coefficient_text : ℕ → ℕ → List ℕ
+later_coefficient_text p r = (if is_negative p r then codes " - " else codes " + ") ++ value_text p r
+
+-- a term without its sign
 abbrev pub term_text : ℕ → List ℕ → ℕ × Tree → List ℕ
-term_text p letters t = (if absolute p t.0 == 1 then [] else decimal (absolute p t.0)) ++ mono_text letters false t.1
+term_text p letters t = value_text p t.0 ++ mono_text letters false t.1
 
 -- a term behind another one
 abbrev pub later_text : ℕ → List ℕ → ℕ × Tree → List ℕ

@@ -2,11 +2,12 @@ ghost use Rattle.std.specs.Prelude.{◌≡◌, decimal};
 ghost use Rattle.std.specs.Fmt.{signed_decimal};
 ghost use Rattle.alb_io.specs.Causes.{HasCause};
 ghost use Rattle.alb_io.specs.Puts.{Puts};
+ghost use Rattle.alb_print.specs.Text.{named};
 
 use alb_io::{Sink, WriteFault, put_all};
 use itoa::Buffer;
 
-// Writes a number that is not negative.
+/// Writes a number that is not negative, in decimal.
 pub fn write_count<K: Sink>(sink: &mut K, number: u64) -> Result<(), WriteFault>
     ensures puts { Puts result (K.taken sink.old) (K.taken sink.new) (decimal number) }
     ensures same_name { K.name sink.new ≡ K.name sink.old }
@@ -14,6 +15,16 @@ pub fn write_count<K: Sink>(sink: &mut K, number: u64) -> Result<(), WriteFault>
 {
     let mut buffer = Buffer::new();
     put_all(sink, buffer.format(number).as_bytes())
+}
+
+/// Writes a word, and behind it a number that is not negative, in decimal.
+pub fn write_named<K: Sink>(sink: &mut K, word: &[u8], number: u64) -> Result<(), WriteFault>
+    ensures puts { Puts result (K.taken sink.old) (K.taken sink.new) (named word.now number) }
+    ensures same_name { K.name sink.new ≡ K.name sink.old }
+    ensures cause { HasCause (K.faults sink.old) (K.faults sink.new) result }
+{
+    put_all(sink, word)?;
+    write_count(sink, number)
 }
 
 /// Writes a number in decimal, with `-` before a negative one.

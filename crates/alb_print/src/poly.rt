@@ -6,7 +6,7 @@ ghost use Rattle.alb_mono.specs.Mono.{tree};
 ghost use Rattle.alb_mono.specs.Tree.{are_below};
 ghost use Rattle.alb_poly.specs.Poly.{AreResidues};
 ghost use Rattle.alb_poly.specs.Terms.{term, terms};
-ghost use Rattle.alb_print.specs.Text.{absolute, is_negative, term_text, later_text, poly_text};
+ghost use Rattle.alb_print.specs.Text.{absolute, is_negative, value_text, leading_coefficient_text, later_coefficient_text, term_text, later_text, poly_text};
 
 use crate::behind::behind;
 use crate::mono::write_mono;
@@ -47,21 +47,53 @@ fn absolute(field: &Field, r: Residue) -> u64
     }
 }
 
-// Writes a term without its sign.
-fn write_term<K: Sink>(
-    sink: &mut K,
-    field: &Field,
-    letters: &Letters,
-    t: &Term,
-) -> Result<(), WriteFault>
-    requires residue { t.now.coef < field.now }
-    requires known { IsTrue (are_below (length letters.now) (tree t.now.mono)) }
-    ensures puts { Puts result (K.taken sink.old) (K.taken sink.new) (term_text field.now letters.now (term t.now)) }
+// Writes the absolute value of the signed residue, which is left out where it is 1.
+fn write_value<K: Sink>(sink: &mut K, field: &Field, r: Residue) -> Result<(), WriteFault>
+    requires { r < field.now }
+    ensures puts { Puts result (K.taken sink.old) (K.taken sink.new) (value_text field.now r) }
     ensures same_name { K.name sink.new ≡ K.name sink.old }
     ensures cause { HasCause (K.faults sink.old) (K.faults sink.new) result }
 {
-    write_coefficient(sink, absolute(field, t.coef))?;
-    write_mono(sink, letters, &t.mono)
+    write_coefficient(sink, absolute(field, r))
+}
+
+/// Writes the coefficient of a first term: `-` where the signed residue is negative, and its absolute value, which is left out
+/// where it is 1.
+pub fn write_leading_coefficient<K: Sink>(
+    sink: &mut K,
+    field: &Field,
+    r: Residue,
+) -> Result<(), WriteFault>
+    requires { r < field.now }
+    ensures puts { Puts result (K.taken sink.old) (K.taken sink.new) (leading_coefficient_text field.now r) }
+    ensures same_name { K.name sink.new ≡ K.name sink.old }
+    ensures cause { HasCause (K.faults sink.old) (K.faults sink.new) result }
+{
+    if is_negative(field, r) {
+        put_all(sink, b"-")?;
+        return write_value(sink, field, r);
+    }
+    write_value(sink, field, r)
+}
+
+/// Writes the coefficient of a term behind another one: ` - ` where the signed residue is negative, else ` + `, and its
+/// absolute value, which is left out where it is 1.
+pub fn write_later_coefficient<K: Sink>(
+    sink: &mut K,
+    field: &Field,
+    r: Residue,
+) -> Result<(), WriteFault>
+    requires { r < field.now }
+    ensures puts { Puts result (K.taken sink.old) (K.taken sink.new) (later_coefficient_text field.now r) }
+    ensures same_name { K.name sink.new ≡ K.name sink.old }
+    ensures cause { HasCause (K.faults sink.old) (K.faults sink.new) result }
+{
+    if is_negative(field, r) {
+        put_all(sink, b" - ")?;
+        return write_value(sink, field, r);
+    }
+    put_all(sink, b" + ")?;
+    write_value(sink, field, r)
 }
 
 // Writes a term behind another one.
@@ -77,12 +109,8 @@ fn write_later<K: Sink>(
     ensures same_name { K.name sink.new ≡ K.name sink.old }
     ensures cause { HasCause (K.faults sink.old) (K.faults sink.new) result }
 {
-    if is_negative(field, t.coef) {
-        put_all(sink, b" - ")?;
-        return write_term(sink, field, letters, t);
-    }
-    put_all(sink, b" + ")?;
-    write_term(sink, field, letters, t)
+    write_later_coefficient(sink, field, t.coef)?;
+    write_mono(sink, letters, &t.mono)
 }
 
 // Writes the first term.
@@ -98,11 +126,8 @@ fn write_first<K: Sink>(
     ensures same_name { K.name sink.new ≡ K.name sink.old }
     ensures cause { HasCause (K.faults sink.old) (K.faults sink.new) result }
 {
-    if is_negative(field, t.coef) {
-        put_all(sink, b"-")?;
-        return write_term(sink, field, letters, t);
-    }
-    write_term(sink, field, letters, t)
+    write_leading_coefficient(sink, field, t.coef)?;
+    write_mono(sink, letters, &t.mono)
 }
 
 // Writes the terms behind the first one.

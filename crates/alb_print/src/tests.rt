@@ -87,9 +87,11 @@ fn monomials_types_and_numbers(rt: HostRuntime) -> Result<(), Fail> {
     write_type(&mut sink, &Multi::of(&[]))?;
     write_number(&mut sink, i64::MIN)?;
     write_number(&mut sink, 125)?;
+    write_count(&mut sink, 0)?;
+    write_named(&mut sink, b" of ", 12)?;
     assert_eq!(rt;
         sink.bytes(),
-        b"((xy)x)(yy)(2,0,11)()-9223372036854775808125".as_slice()
+        b"((xy)x)(yy)(2,0,11)()-92233720368547758081250 of 12".as_slice()
     );
     Ok(())
 }

@@ -4,7 +4,7 @@ use Rattle.std.specs.Prelude.{All, IsTrue, None, Some, if◌then◌else◌}
 use Rattle.std.proofs.lemmas.Bool.{cases_Bool}
 use Rattle.std.proofs.lemmas.Bool.Decides.{nat_tests}
 use Rattle.alb_mono.specs.Listing.{Each}
-use Rattle.alb_mono.specs.Tree.{Tree, degree}
+use Rattle.alb_mono.specs.Tree.{Tree, degree, are_below}
 use Rattle.alb_mono.proofs.Leaves.{and_left, and_right}
 use Rattle.alb_poly.specs.Consequence.{IsConsequence}
 use Rattle.alb_poly.specs.Instance.{Form}
@@ -60,3 +60,13 @@ misfit-first target (u ∷ ts) (suc k) j t h s e = rw s (misfit-first target ts 
 
 pub not-both : (b : Bool) → b ≡ false → IsTrue b → ⊥
 not-both b e h = cc
+
+-- a misfit has no other generators than the polynomial
+pub misfit-known : (n : ℕ) (target : List ℕ) (g : Poly) (m : Tree) → misfit target g ≡ Some m → All (λ t. IsTrue (are_below n t.1)) g → IsTrue (are_below n m)
+misfit-known n target [] m is known = absurd (cc)
+misfit-known n target (t ∷ g) m is known = elim (cases_Bool (fits target t.1)) [
+  | inl e ↦ misfit-known n target g m (rw e at is) (λ k d l. known (suc k) d (omega arith))
+  | inr e ↦
+      let q : Some t.1 ≡ Some m = rw e at is in
+      let same : t.1 ≡ m = cc in subst (λ x. IsTrue (are_below n x)) same (known 0 t (omega arith))
+]

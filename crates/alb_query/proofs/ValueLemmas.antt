@@ -18,7 +18,7 @@ use Rattle.alb_poly.specs.Normal.{normal}
 use Rattle.alb_poly.specs.Poly.{Poly, IsSamePoly}
 use Rattle.alb_poly.proofs.Consequence.{tree_tells, alike_poly, poly_alike}
 use Rattle.alb_poly.proofs.NormalLemmas.{normal-each, normal-alike, normal-residues, normal-descending}
-use Rattle.alb_rows.specs.Row.{Cells, comb, AreSameVector, IsRowOver}
+use Rattle.alb_rows.specs.Row.{Cells, comb, AreSameVector, ColumnsBelow, IsRowOver}
 use Rattle.alb_poly.specs.Terms.{term, terms}
 use Rattle.alb_poly.specs.declared.term.Term.{Term}
 use Rattle.alb_rows.proofs.RowLemmas.{told}
@@ -40,6 +40,7 @@ use Rattle.alb_table.proofs.TableLemmas.{type_shape}
 use Rattle.alb_table.proofs.Right.{of_type-degree}
 use Rattle.alb_table.proofs.Within.{test_from_below}
 use Rattle.alb_table.proofs.ValueLemmas.{zero_exactly}
+use Rattle.alb_linear.proofs.LinearLemmas.{all_from_each}
 use Rattle.alb_query.specs.Answer.{IsNormalForm}
 
 -- values agree where the vectors of the letters that occur do
@@ -93,6 +94,24 @@ module _ (fs : List Form) (t : Table) (tab : IsTable t) (right : IsRightTable fs
       let f : length t.target ≤ 12 = few_generators t.target tab.goal in
       test_from_below 26 (mono_at t.parts b) (below-more (length (type_at t.parts b)) 26 (mono_at t.parts b) (omega arith)
       (below_from_test (length (type_at t.parts b)) (mono_at t.parts b) (number-type fs t tab right.right b h).below))
+
+  -- the generators of a basis monomial are those of the table
+  pub mono-known : (b : ℕ) → b < length (elems t.parts) → IsTrue (are_below (length t.target) (mono_at t.parts b))
+  mono-known b h =
+      let n : length (type_at t.parts b) ≡ length t.target = (type_shape t b tab h).long in
+      test_from_below (length t.target) (mono_at t.parts b)
+      (below-more (length (type_at t.parts b)) (length t.target) (mono_at t.parts b) (omega (arith, n))
+      (below_from_test (length (type_at t.parts b)) (mono_at t.parts b) (number-type fs t tab right.right b h).below))
+
+  row-known : (cells : Cells) → ColumnsBelow (length (elems t.parts)) cells → Each (λ s. IsTrue (are_below (length t.target) s.1)) (reindex (mono_at t.parts) (comb cells))
+  row-known [] h = tt
+  row-known (x ∷ cells) h = (mono-known x.0 (h 0 x (omega arith)), row-known cells (λ k d l. h (suc k) d (omega arith)))
+
+  -- so are those of a normal form
+  pub normal_form-known : (p : ℕ) (cells : Cells) → ColumnsBelow (length (elems t.parts)) cells
+      → All (λ s. IsTrue (are_below (length t.target) s.1)) (normal p (reindex (mono_at t.parts) (comb cells)))
+  normal_form-known p cells h =
+      all_from_each _ _ (normal-each (λ m. IsTrue (are_below (length t.target) m)) p (reindex (mono_at t.parts) (comb cells)) (row-known cells h))
 
 module _ (fs : List Form) (t : Table) (tab : IsTable t) (right : IsRightTable fs t) (pos : 0 < t.p) (multi : AreMultilinear fs) (high : AreHigh fs) where
   is-numbered : IsNumbered (length t.target) (monos t.parts) (table_product t.parts)

@@ -1,5 +1,5 @@
 -- What a question about a polynomial is answered.
-use Rattle.std.specs.Prelude.{◌≡◌, ℕ, nat_lt, Bool, true, false, ◌&&◌, if◌then◌else◌, List, [], ◌∷◌, length, Option, None, Some}
+use Rattle.std.specs.Prelude.{◌≡◌, ℕ, nat_lt, Bool, true, false, ◌&&◌, if◌then◌else◌, List, [], ◌∷◌, length, Option, None, Some, All, IsTrue}
 use Rattle.alb_mono.specs.Listing.{Each}
 use Rattle.alb_mono.specs.Tree.{Tree, are_below, type_of, type_le}
 use Rattle.alb_poly.specs.Poly.{Poly, AreResidues, IsDescending, greatest_degree}
@@ -28,6 +28,13 @@ pub record IsNormalForm (p : ℕ) (fs : List Form) (g f : Poly) : Type 0 where
   pub residues : AreResidues p f
   pub normal : Each (λ t. IsNormal p fs t.1) f
   pub congruent : IsCongruent p fs g f
+
+-- the coefficients of an answer are residues, and its monomials are over the first `n` generators
+abbrev pub IsOver : ℕ → ℕ → Answer → Type 0
+IsOver p n Zero = Unit {0}
+IsOver p n (NotZero f) = AreResidues p f × All (λ t. IsTrue (are_below n t.1)) f
+IsOver p n (NotBuilt k) = Unit {0}
+IsOver p n (OutOfType m) = IsTrue (are_below n m)
 
 -- the answer to `g` within the table
 abbrev pub AnswersWithin : ℕ → List Form → Poly → Answer → Type 0

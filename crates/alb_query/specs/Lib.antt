@@ -1,2 +1,3 @@
 pub mod Answer
 pub mod Views
+pub mod Laws

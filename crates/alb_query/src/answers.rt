@@ -14,7 +14,7 @@ ghost use Rattle.alb_table.specs.Right.{AreHigh};
 ghost use Rattle.alb_table.specs.RightTable.{IsRightTable};
 ghost use Rattle.alb_table.specs.Table.{IsTable};
 ghost use Rattle.alb_table.specs.Value.{IsVector};
-ghost use Rattle.alb_query.specs.Answer.{fits, misfit, IsAnswer};
+ghost use Rattle.alb_query.specs.Answer.{fits, misfit, IsAnswer, IsOver};
 ghost use Rattle.alb_query.specs.Views.{answer_of};
 
 use crate::Reply;
@@ -76,7 +76,10 @@ pub fn answer(alloc: Global, rules: &Rules, tables: &Tables, g: &Poly) -> Result
     requires right { IsRightTable (forms rules.now) tables.now }
     requires residues { AreResidues tables.now.p g.now }
     requires known { All (λ t. IsTrue (are_below (length tables.now.target) t.1)) g.now }
-    ensures { IfOk result (λ r. IsAnswer tables.now.p (forms rules.now) tables.now.target tables.now.degree g.now (answer_of r)) }
+    // The answer is that of the definition.
+    ensures answer { IfOk result (λ r. IsAnswer tables.now.p (forms rules.now) tables.now.target tables.now.degree g.now (answer_of r)) }
+    // It can be printed with the letters of the generators.
+    ensures over { IfOk result (λ r. IsOver tables.now.p (length tables.now.target) (answer_of r)) }
 {
     if let Some(m) = misfit(tables.target(), g.terms()) {
         return Ok(Reply::OutOfType(m.try_copy(alloc)?));

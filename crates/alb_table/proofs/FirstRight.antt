@@ -13,7 +13,7 @@ use Rattle.alb_poly.specs.Poly.{list_eq}
 use Rattle.alb_poly.specs.Consequence.{AreMultilinear}
 use Rattle.alb_poly.specs.Instance.{Form}
 use Rattle.alb_table.specs.declared.part.Elem.TheVariants.{Gen}
-use Rattle.alb_table.specs.PartView.{PartView, first_of, dim_of, monos_after, mono_at}
+use Rattle.alb_table.specs.PartView.{PartView, elems, first_of, dim_of, monos_after, mono_at}
 use Rattle.alb_table.specs.Table.{IsTable, IsTarget, IsPartOf, first_parts, first_table}
 use Rattle.alb_table.specs.Limits.{most_of_type}
 use Rattle.alb_table.specs.Right.{AreHigh, IsOfType, IsTypeTo}
@@ -73,6 +73,10 @@ first-mono ts j h =
     ap (λ es. get_or (monos_after [] es) j (leaf 0)) (first_elems 0 ts) ∙ ap (λ ms. get_or ms j (leaf 0)) (monos-gens [] 0 (length ts))
     ∙ get-leaf 0 (length ts) j h ∙ ap leaf (omega arith)
 
+no-origins : (k : ℕ) (ts : List (List ℕ)) (n : ℕ) → Each (λ (q : PartView). Each (λ (o : ℕ × List ℕ). Each (λ b. b < n) o.1) q.origins) (first_parts k ts)
+no-origins k [] n = tt
+no-origins k (t ∷ ts) n = (tt, no-origins (suc k) ts n)
+
 small-parts : (k : ℕ) (ts : List (List ℕ)) → Each (λ (q : PartView). length q.entries ≤ most_of_type) (first_parts k ts)
 small-parts k [] = tt
 small-parts k (t ∷ ts) = (omega arith, small-parts (suc k) ts)
@@ -111,7 +115,8 @@ module _ (p : ℕ) (target : List ℕ) (prime : IsInTable p) (goal : IsTarget ta
   pub first-right-table : (fs : List Form) → AreMultilinear fs → AreHigh fs → IsRightTable fs (first_table p target)
   first-right-table fs multi high = record {
     right = first-right p fs multi high target (basis_monos (first_parts 0 (types_of target 1))) (mono_entry (first_parts 0 (types_of target 1))) one none;
-    origins = λ w c h. (let d : sum w ≤ 1 = c.degree_le in absurd (omega arith));
+    origins = λ w l c h. (let d : sum w ≤ 1 = c.degree_le in absurd (omega arith));
+    known = no-origins 0 (types_of target 1) (length (elems (first_parts 0 (types_of target 1))));
     limits = record {
       types = small-parts 0 (types_of target 1);
       products = let e = first_products 0 (types_of target 1) in omega arith;

@@ -1,18 +1,20 @@
 -- The monomials of basis elements.
-use Rattle.std.proofs.Common.{◌≡◌, ℕ, zero, suc, ◌+◌, ◌-◌, ◌<◌, ◌≤◌, List, [], ◌∷◌, ◌++◌, length, get_or, sym, refl, ap, ◌∙◌, arith, inl, inr, ◌⊎◌, subst, sum, length-append}
+use Rattle.std.proofs.Common.{◌≡◌, ℕ, zero, suc, ◌+◌, ◌-◌, ◌<◌, ◌≤◌, ◌==◌, false, List, [], ◌∷◌, ◌++◌, length, get_or, sym, refl, ap, ◌∙◌, arith, inl, inr, ◌⊎◌, subst, sum, length-append}
 use Rattle.std.specs.Prelude.{Some, slice_get}
 use Rattle.std.proofs.lemmas.List.{get_or_append_left, get_or-append_right}
-use Rattle.alb_mono.specs.Listing.{Each}
-use Rattle.alb_mono.specs.Tree.{Tree, leaf, node}
+use Rattle.alb_mono.specs.Listing.{Each, IsIn}
+use Rattle.alb_mono.specs.Tree.{Tree, leaf, node, count, listed, type_of}
 use Rattle.alb_mono.proofs.ListingLemmas.{each-at, each-weaker}
 use Rattle.alb_table.specs.declared.part.Elem.{Elem}
 use Rattle.alb_table.specs.declared.part.Elem.TheVariants.{Gen, Prod}
 use Rattle.alb_table.specs.PartView.{PartView, elems, type_at, mono_of, monos_after, monos, mono_at}
 use Rattle.alb_table.specs.Entry.{products}
-use Rattle.alb_table.specs.Table.{Table, IsTable, IsElementOf, IsPartOf, FactorsBelow}
+use Rattle.alb_table.specs.Table.{Table, IsTable, IsElementOf, IsPartOf, FactorsBelow, GeneratorBelow}
+use Rattle.alb_table.specs.Grid.{ArePairsBelow}
 use Rattle.alb_table.proofs.PartLemmas.{elems_step, sum-plus}
 use Rattle.alb_table.proofs.RangeLemmas.{type_first, type_later, product_of, type_of_range, degrees_ascend}
-use Rattle.alb_table.proofs.TableLemmas.{types_ascend}
+use Rattle.alb_table.proofs.TableLemmas.{types_ascend, type_shape}
+use Rattle.std.proofs.lemmas.Bool.Decides.{nat_tests}
 
 mono_of-same : (ms ns : List Tree) (n : ℕ) (e : Elem) → FactorsBelow n e → ((i : ℕ) → i < n → get_or ms i (leaf 0) ≡ get_or ns i (leaf 0)) → mono_of ms e ≡ mono_of ns e
 mono_of-same ms ns n (Gen k) f h = refl
@@ -94,6 +96,50 @@ elem_factors t b e k h g =
     subst (FactorsBelow b) q
     (factors_of t b (get_or (elems t.parts) b e) k h
     (element_at t.parts t.parts b e (each-weaker (IsPartOf t.p t.parts t.parts) (λ (v : PartView). Each (IsElementOf v.at (products t.parts v.at)) v.basis) t.parts (λ v z. z.elements) k.each) h))
+
+-- a generator that is none of the first n has no count among them
+no_count : (k j n : ℕ) → j + n ≤ k → sum (listed (λ g. count g (leaf k)) j n) ≡ 0
+no_count k j zero h = refl
+no_count k j (suc n) h =
+    let e : (k == j) ≡ false = grind (arith, nat_tests) in
+    rw e (no_count k (suc j) n (omega arith))
+
+no_type : (k n : ℕ) → n ≤ k → sum (type_of n (leaf k)) ≡ 0
+unfolding type_of
+no_type k n h = no_count k 0 n (omega arith)
+
+generator_of : (t : Table) (b : ℕ) (e : Elem) → IsTable t → b < length (elems t.parts) → IsElementOf (type_at t.parts b) (products t.parts (type_at t.parts b)) e → GeneratorBelow (length t.target) e
+generator_of t b (Gen k) tab h i = elim (side k (length t.target)) [
+  | inl r ↦ r
+  | inr r ↦
+      let s = type_shape t b tab h in
+      let n : length (type_at t.parts b) ≡ length t.target = s.long in
+      let z : sum (type_of (length (type_at t.parts b)) (leaf k)) ≡ 0 = no_type k (length (type_at t.parts b)) (omega arith) in
+      let q : sum (type_at t.parts b) ≡ 0 = ap sum i ∙ z in
+      let some : 0 < sum (type_at t.parts b) = s.some in absurd (omega arith)
+]
+  where
+    side : (a b : ℕ) → (a < b) ⊎ (b ≤ a)
+    side a b = grind arith
+generator_of t b (Prod l r) tab h i = tt
+
+pub elem_generator : (t : Table) (b : ℕ) (e : Elem) → IsTable t → b < length (elems t.parts) → slice_get (elems t.parts) b ≡ Some e → GeneratorBelow (length t.target) e
+elem_generator t b e k h g =
+    let q : get_or (elems t.parts) b e ≡ e = get_of_some (elems t.parts) b e e g in
+    subst (GeneratorBelow (length t.target)) q
+    (generator_of t b (get_or (elems t.parts) b e) k h
+    (element_at t.parts t.parts b e (each-weaker (IsPartOf t.p t.parts t.parts) (λ (v : PartView). Each (IsElementOf v.at (products t.parts v.at)) v.basis) t.parts (λ v z. z.elements) k.each) h))
+
+-- ---- the numbers of listed products
+
+each-in : {X : Type 0} (P : X → Type 0) (xs : List X) → ((x : X) → IsIn x xs → P x) → Each P xs
+each-in P [] h = tt
+each-in P (x ∷ xs) h = (h x (inl refl), each-in P xs (λ y i. h y (inr i)))
+
+pub products_below : (parts : List PartView) (t : List ℕ) → ArePairsBelow (length (elems parts)) (products parts t)
+products_below parts t = each-in (λ k. (k.0 < length (elems parts)) × (k.1 < length (elems parts))) (products parts t) (λ k i.
+    let p = product_of parts t k.0 k.1 i in
+    ((type_of_range parts p.left k.0 p.left_range).0, (type_of_range parts p.right k.1 p.right_range).0))
 
 -- the monomial of an element is made of those of its factors
 pub mono_step : (t : Table) (b : ℕ) (e : Elem) → IsTable t → b < length (elems t.parts) → slice_get (elems t.parts) b ≡ Some e → mono_at t.parts b ≡ mono_of (monos t.parts) e

@@ -12,7 +12,7 @@ use Rattle.std.proofs.lemmas.List.{get_or-replicate, get_or_append_left, get_or-
 use Rattle.alb_table.specs.declared.grid.Grid.{Grid}
 use Rattle.alb_table.specs.Grid.{cells_of, OffsetsFrom, Rises, rectangle, find_entry}
 use Rattle.alb_poly.specs.Poly.{list_eq}
-use Rattle.alb_table.specs.PartView.{PartView, part_view, first_of, dim_of, elems, types, type_at, entries_at, origins_at}
+use Rattle.alb_table.specs.PartView.{PartView, part_view, first_of, dim_of, elems, types, type_at, entries_at, origins_at, part_at}
 use Rattle.alb_table.specs.Entry.{products_of, products, entry_of}
 use Rattle.alb_table.specs.Stored.{grids_from}
 use Rattle.alb_table.specs.Views.{numbers_from, part_number, view_of, views, IsStored, AreStored, IsStore, IsFull, Pushes, Grows, Extends}
@@ -149,6 +149,14 @@ element_part arcs b n d h q =
     let m : length (map view_of arcs) ≡ length arcs = length-views arcs in
     let k : n < length arcs = omega arith in
     (k, λ a. ap (λ v. v.at) (sym (map_at view_of arcs n a no_part k)) ∙ ap (λ j. (get_or (map view_of arcs) j no_part).at) e ∙ r.3)
+
+-- the rectangles of a stored part
+pub cells_at : (arcs : List (Arc Stored Global)) (k : ℕ) (a : Arc Stored Global) → AreStored (map view_of arcs) arcs → k < length arcs →
+    flat_map cells_of (arc_value (get_or arcs k a)).grids.items ≡ products (map view_of arcs) (part_at (map view_of arcs) k).at
+cells_at arcs k a kept n =
+    let s : IsStored (map view_of arcs) (arc_value (get_or arcs k a)) = each-at (λ (b : Arc Stored Global). IsStored (map view_of arcs) (arc_value b)) arcs k a kept n in
+    let v : get_or (map view_of arcs) k no_part ≡ view_of (get_or arcs k a) = map_at view_of arcs k a no_part n in
+    s.cells ∙ ap (λ (q : PartView). products (map view_of arcs) q.at) (sym v)
 
 pub record Found (arcs : List (Arc Stored Global)) (w : List ℕ) (k : ℕ) (a : Arc Stored Global) : Type 0 where
   pub grids : flat_map cells_of (arc_value (get_or arcs k a)).grids.items ≡ products (map view_of arcs) w

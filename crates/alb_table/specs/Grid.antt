@@ -1,6 +1,7 @@
 -- Products in rectangles.
-use Rattle.std.specs.Prelude.{◌≡◌, ℕ, ◌+◌, ◌-◌, ◌*◌, ◌≤◌, ◌==◌, nat_le, nat_lt, Bool, ◌&&◌, if◌then◌else◌, List, [], ◌∷◌, map, Option, Some, None}
+use Rattle.std.specs.Prelude.{◌≡◌, ℕ, ◌+◌, ◌-◌, ◌*◌, ◌≤◌, ◌<◌, ◌==◌, nat_le, nat_lt, Bool, ◌&&◌, if◌then◌else◌, List, [], ◌∷◌, map, Option, Some, None}
 use Rattle.std.specs.List.{flat_map}
+use Rattle.alb_mono.specs.Listing.{Each}
 use Rattle.alb_mono.specs.Types.{rising}
 use Rattle.alb_table.specs.declared.grid.Grid.{Grid}
 
@@ -13,6 +14,10 @@ rectangle a n b m = flat_map (λ i. map (λ j. (i, j)) (rising b m)) (rising a n
 
 abbrev pub cells_of : Grid → List (ℕ × ℕ)
 cells_of g = rectangle g.left g.lefts g.right g.rights
+
+-- both numbers are below n
+abbrev pub ArePairsBelow : ℕ → List (ℕ × ℕ) → Type 0
+ArePairsBelow n ks = Each (λ k. (k.0 < n) × (k.1 < n)) ks
 
 -- the entry beside a key
 abbrev pub find_entry : {E : Type 0} → ℕ × ℕ → List (ℕ × ℕ) → List E → Option E

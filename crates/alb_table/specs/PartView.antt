@@ -22,6 +22,10 @@ origin_view o = (o.identity, o.args.items)
 abbrev pub part_view : Part → PartView
 part_view q = record { at = q.at; basis = q.basis.items; entries = q.entries.items; origins = map origin_view q.origins.items }
 
+-- the part at a place, in the order of types
+abbrev pub part_at : List PartView → ℕ → PartView
+part_at parts k = slice_index_or parts k (record { at = []; basis = []; entries = []; origins = [] })
+
 -- the number of the first basis element of a type, and how many there are
 abbrev pub first_of : List PartView → List ℕ → ℕ
 first_of [] t = 0

@@ -1,5 +1,6 @@
 -- Right tables: those of the relatively free algebra of some identities.
-use Rattle.std.specs.Prelude.{ℕ, ◌-◌, ◌≤◌, List, map, sum}
+use Rattle.std.specs.Prelude.{◌≡◌, ℕ, ◌-◌, ◌<◌, ◌≤◌, List, length, map, sum}
+use Rattle.alb_mono.specs.Listing.{Each}
 use Rattle.alb_mono.specs.Tree.{Tree}
 use Rattle.alb_mono.specs.Types.{rising}
 use Rattle.alb_poly.specs.Poly.{Poly}
@@ -7,7 +8,7 @@ use Rattle.alb_poly.specs.Instance.{Form}
 use Rattle.alb_table.specs.Block.{AreOriginsAt}
 use Rattle.alb_table.specs.Entry.{table_product}
 use Rattle.alb_table.specs.Limits.{IsWithinLimits}
-use Rattle.alb_table.specs.PartView.{PartView, first_of, dim_of, origins_at, monos, mono_at}
+use Rattle.alb_table.specs.PartView.{PartView, elems, first_of, dim_of, origins_at, monos, mono_at}
 use Rattle.alb_table.specs.Right.{IsRight, entry_by}
 use Rattle.alb_table.specs.Table.{Table, CoversType}
 
@@ -27,6 +28,7 @@ instance_at parts o = (o.0, map (mono_at parts) o.1)
 -- as many instances as the type has pivots, with the span of all its instances, and no limit is passed.
 pub record IsRightTable (fs : List Form) (t : Table) : Type 0 where
   pub right : IsRight t.p fs t.target t.degree (basis_monos t.parts) (mono_entry t.parts)
-  pub origins : (w : List ℕ) → CoversType t w → 2 ≤ sum w
+  pub origins : (w : List ℕ) → length w ≡ length t.target → CoversType t w → 2 ≤ sum w
       → AreOriginsAt t.p fs t.target (sum w - 1) (mono_entry t.parts) w (map (instance_at t.parts) (origins_at t.parts w))
+  pub known : Each (λ q. Each (λ o. Each (λ b. b < length (elems t.parts)) o.1) q.origins) t.parts
   pub limits : IsWithinLimits t

@@ -33,6 +33,11 @@ abbrev pub FactorsBelow : ℕ → Elem → Type 0
 FactorsBelow n (Gen k) = Unit {0}
 FactorsBelow n (Prod b c) = (b < n) × (c < n)
 
+-- an element that is a generator is one of the first n
+abbrev pub GeneratorBelow : ℕ → Elem → Type 0
+GeneratorBelow n (Gen k) = k < n
+GeneratorBelow n (Prod b c) = Unit {0}
+
 -- a basis element of the type `t`, whose products are listed: the generator of this type, or one of the products
 abbrev pub IsElementOf : List ℕ → List (ℕ × ℕ) → Elem → Type 0
 IsElementOf t ps (Gen k) = t ≡ type_of (length t) (leaf k)

@@ -18,5 +18,6 @@ mod tests;
 mod value;
 
 pub use end::BuildEnd;
+pub use grid::Grid;
 pub use part::{Elem, Origin, Part};
 pub use tables::Tables;

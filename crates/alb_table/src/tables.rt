@@ -1,15 +1,18 @@
 ghost use Rattle.std.specs.Prelude.{◌≡◌, ◌+◌, ◌<◌, ◌≤◌, ◌^◌, ◌++◌, All, length, map, sum, Some, None, IfOk, IfSome, IfNone, MatchOption, slice_get};
+ghost use Rattle.std.specs.List.{flat_map};
 ghost use Rattle.alb_mono.specs.Listing.{Each};
 ghost use Rattle.alb_mono.specs.Mono.{tree};
 ghost use Rattle.alb_mono.specs.Tree.{type_plus};
 ghost use Rattle.alb_mono.specs.Types.{types_of};
-ghost use Rattle.alb_table.specs.PartView.{elems, type_at, first_of, dim_of, mono_at, origin_view, origins_at, part_view};
-ghost use Rattle.alb_table.specs.Entry.{entry_of};
+ghost use Rattle.alb_table.specs.PartView.{elems, type_at, first_of, dim_of, mono_at, origin_view, origins_at, part_at, part_view};
+ghost use Rattle.alb_table.specs.Entry.{entry_of, products};
+ghost use Rattle.alb_table.specs.Grid.{cells_of, ArePairsBelow};
 ghost use Rattle.alb_table.specs.Value.{IsVector};
-ghost use Rattle.alb_table.specs.Table.{FactorsBelow, IsTable, IsTarget, IsPartOf, IsCountable, CoversType, count_products, count_coefficients, extended, first_table};
+ghost use Rattle.alb_table.specs.Table.{FactorsBelow, GeneratorBelow, IsTable, IsTarget, IsPartOf, IsCountable, CoversType, count_products, count_coefficients, extended, first_table};
 
 use crate::build::{empty_store, first_parts, grown};
 use crate::count::{count_cells, count_entries};
+use crate::grid::Grid;
 use crate::find::{entry_in, find_part, range_of};
 use crate::part::{Elem, Origin, Part};
 use crate::store::Store;
@@ -113,6 +116,7 @@ impl Tables {
         requires { b < length (elems self.now.parts) }
         ensures value { slice_get (elems self.now.parts) b ≡ Some result }
         ensures factors { FactorsBelow b result }
+        ensures generator { GeneratorBelow (length self.now.target) result }
     {
         self.store.elems[b as usize]
     }
@@ -161,6 +165,30 @@ impl Tables {
                 entry_in(&stored.grids, &stored.part.entries, b, c)
             }
         }
+    }
+
+    /// The number of types.
+    pub fn type_count(&self) -> usize
+        ensures { result ≡ length self.now.parts }
+    {
+        self.store.parts.len()
+    }
+
+    /// What the table has of a type, by the place of the type.
+    pub fn part(&self, k: usize) -> &Part
+        requires { k < length self.now.parts }
+        ensures { part_view result.now ≡ part_at self.now.parts k }
+    {
+        &self.store.parts[k].part
+    }
+
+    /// The products of a type, by the place of the type: the rectangles of the types of its factors, in order.
+    pub fn grids(&self, k: usize) -> &[Grid]
+        requires { k < length self.now.parts }
+        ensures cells { flat_map cells_of result.now ≡ products self.now.parts (part_at self.now.parts k).at }
+        ensures below { ArePairsBelow (length (elems self.now.parts)) (flat_map cells_of result.now) }
+    {
+        &self.store.parts[k].grids
     }
 
     /// The instances that made the pivots of a type, none where the table does not have the type.

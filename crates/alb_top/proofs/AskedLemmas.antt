@@ -1,6 +1,6 @@
--- What a line of a check may ask for: its words by the place, and identities over the letters a to z.
-use Rattle.std.proofs.Common.{◌≡◌, ℕ, ◌+◌, Bool, true, false, List, length, Option, Some, None, Result, Ok, Err, refl, subst}
-use Rattle.std.specs.Prelude.{IsTrue, All, drop, take, slice_index, if◌then◌else◌, ◌==◌}
+-- What a line may ask for: its words by the form and the place, and identities over the letters a to z.
+use Rattle.std.proofs.Common.{◌≡◌, ℕ, ◌+◌, Bool, true, false, List, length, Option, Some, None, Result, Ok, Err, refl, sym, ◌∙◌, subst}
+use Rattle.std.specs.Prelude.{IsTrue, All, drop, take, slice_index, if◌then◌else◌, ◌==◌, ◌&&◌, not}
 use Rattle.alb_mono.specs.Letters.{alphabet}
 use Rattle.alb_mono.specs.Tree.{are_below}
 use Rattle.alb_lex.specs.declared.token.Token.{Token}
@@ -9,10 +9,12 @@ use Rattle.alb_syntax.specs.declared.error.SyntaxError.{SyntaxError}
 use Rattle.alb_syntax.proofs.Found.{denoted-found}
 use Rattle.alb_syntax.proofs.Known.{denoted-known}
 use Rattle.alb_poly.specs.Poly.{Poly}
-use Rattle.alb_script.specs.Words.{word_named}
+use Rattle.alb_script.specs.Words.{word_named, belongs, is_early, is_late}
 use Rattle.alb_script.specs.Asked.{Asked, Blank, Field, Generators, Identity, Build, Polynomial, Prove, Dimensions, Table, Claim, Await, Quit, ◌>>=◌, dense, or_syntax, tokens_at, poly_at, when_none, number_at, degree_at, asked_by, known, timely, word_of, word_length, asked_from, asked_at, asked}
 use Rattle.alb_script.specs.declared.error.CommandError.{CommandError}
-use Rattle.alb_script.specs.declared.form.Form.TheVariants.{Check}
+use Rattle.alb_script.specs.declared.error.CommandError.TheVariants as errors
+use Rattle.alb_script.specs.declared.form.Form.{Form}
+use Rattle.alb_script.specs.declared.form.Form.TheVariants as forms
 use Rattle.alb_script.specs.declared.word.Word.{Word}
 use Rattle.alb_script.specs.declared.word.Word.TheVariants as word
 use Rattle.alb_top.specs.View.{IsTimely}
@@ -24,38 +26,41 @@ got (Err e) f b h = absurd (cc)
 
 -- ---- words
 
--- words of the problem stand before `build`, and `claim` behind it
-abbrev StandsAt : Bool → Word → Type 0
-StandsAt built word.Field = built ≡ false
-StandsAt built word.Generators = built ≡ false
-StandsAt built word.Identity = built ≡ false
-StandsAt built word.Build = built ≡ false
-StandsAt built word.Claim = built ≡ true
-StandsAt built word.Quit = Unit {0}
-StandsAt built other = ⊥
+-- a word of the form that may stand here
+record Stands (form : Form) (built : Bool) (w : Word) : Type 0 where
+  of_form : belongs form w ≡ true
+  early : is_early w ≡ true → built ≡ false
+  late : is_late w ≡ true → built ≡ true
 
-stands : (built : Bool) (w v : Word) → (known Check (Some w) >>= timely built) ≡ Ok v → StandsAt built v
-stands false word.Field v h = let e : word.Field ≡ v = cc in subst (StandsAt false) e refl
-stands false word.Generators v h = let e : word.Generators ≡ v = cc in subst (StandsAt false) e refl
-stands false word.Identity v h = let e : word.Identity ≡ v = cc in subst (StandsAt false) e refl
-stands false word.Build v h = let e : word.Build ≡ v = cc in subst (StandsAt false) e refl
-stands false word.Claim v h = absurd (cc)
-stands false word.Quit v h = let e : word.Quit ≡ v = cc in subst (StandsAt false) e tt
-stands true word.Field v h = absurd (cc)
-stands true word.Generators v h = absurd (cc)
-stands true word.Identity v h = absurd (cc)
-stands true word.Build v h = absurd (cc)
-stands true word.Claim v h = let e : word.Claim ≡ v = cc in subst (StandsAt true) e refl
-stands true word.Quit v h = let e : word.Quit ≡ v = cc in subst (StandsAt true) e tt
-stands built word.Polynomial v h = absurd (cc)
-stands built word.Prove v h = absurd (cc)
-stands built word.Dimensions v h = absurd (cc)
-stands built word.Table v h = absurd (cc)
-stands built word.Await v h = absurd (cc)
+if_err : (b : Bool) (e : CommandError) (r : Result Word CommandError) (v : Word) → (if b then Err e else r) ≡ Ok v → (b ≡ false) × (r ≡ Ok v)
+if_err true e r v h = absurd (cc)
+if_err false e r v h = (refl, h)
 
-word-stands : (built : Bool) (o : Option Word) (v : Word) → (known Check o >>= timely built) ≡ Ok v → StandsAt built v
-word-stands built None v h = absurd (cc)
-word-stands built (Some w) v h = stands built w v h
+not_early : (built early : Bool) → (built && early) ≡ false → early ≡ true → built ≡ false
+not_early true early h e = absurd (let f : true ≡ false = sym e ∙ h in cc)
+not_early false early h e = refl
+
+not_late : (built late : Bool) → (not built && late) ≡ false → late ≡ true → built ≡ true
+not_late true late h e = refl
+not_late false late h e = absurd (let f : true ≡ false = sym e ∙ h in cc)
+
+same_word : (x y : Word) (r s : Result Word CommandError) → r ≡ Ok x → s ≡ Ok y → r ≡ s → x ≡ y
+same_word x y r s p q h = cc
+
+timely-stands : (form : Form) (built : Bool) (w v : Word) → belongs form w ≡ true → timely built w ≡ Ok v → Stands form built v
+timely-stands form built w v of_form h =
+    let a = if_err (built && is_early w) errors.AlreadyBuilt (if not built && is_late w then Err errors.NotYetBuilt else Ok w) v h in
+    let b = if_err (not built && is_late w) errors.NotYetBuilt (Ok w) v a.1 in
+    let is : w ≡ v = same_word w v (Ok w) (Ok v) refl refl b.1 in
+    subst (Stands form built) is (record { of_form = of_form; early = not_early built (is_early w) a.0; late = not_late built (is_late w) b.0 })
+
+known_stands : (form : Form) (built b : Bool) (w v : Word) → belongs form w ≡ b → ((if b then Ok w else Err errors.Unknown) >>= timely built) ≡ Ok v → Stands form built v
+known_stands form built true w v is h = timely-stands form built w v is h
+known_stands form built false w v is h = absurd (cc)
+
+word-stands : (form : Form) (built : Bool) (o : Option Word) (v : Word) → (known form o >>= timely built) ≡ Ok v → Stands form built v
+word-stands form built None v h = absurd (cc)
+word-stands form built (Some w) v h = known_stands form built (belongs form w) w v refl h
 
 -- ---- what a word asks for
 
@@ -63,56 +68,73 @@ is_alone : (a b : Asked) (at : ℕ) (o : Option ℕ) → when_none a at o ≡ Ok
 is_alone a b at None h = cc
 is_alone a b at (Some k) h = absurd (cc)
 
-by-timely : (built : Bool) (total p : ℕ) (letters : List ℕ) (w : Word) (at : ℕ) (line : List ℕ) (a : Asked) → StandsAt built w → asked_by total p letters w at line ≡ Ok a → IsTimely built a
+by-timely : (form : Form) (built : Bool) (total p : ℕ) (letters : List ℕ) (w : Word) (at : ℕ) (line : List ℕ) (a : Asked) → Stands form built w → asked_by total p letters w at line ≡ Ok a → IsTimely form built a
 unfolding asked_by
-by-timely built total p letters word.Field at line a s h =
+by-timely form built total p letters word.Field at line a s h =
     let g = got (number_at at line) (λ n. Ok (Field n)) a h in
     let e : Field g.0 ≡ a = cc in
-    subst (IsTimely built) e s
-by-timely built total p letters word.Generators at line a s h =
+    subst (IsTimely form built) e (record { of_form = tt; stands = s.early refl })
+by-timely form built total p letters word.Generators at line a s h =
     let g = got (tokens_at at line) (λ ts. Ok (Generators ts (length line + 1))) a h in
     let e : Generators g.0 (length line + 1) ≡ a = cc in
-    subst (IsTimely built) e s
-by-timely built total p letters word.Identity at line a s h =
+    subst (IsTimely form built) e (record { of_form = tt; stands = s.early refl })
+by-timely form built total p letters word.Identity at line a s h =
     let g = got (poly_at p alphabet at line) (λ f. Ok (Identity f)) a h in
     let e : Identity g.0 ≡ a = cc in
-    subst (IsTimely built) e s
-by-timely built total p letters word.Build at line a s h = subst (IsTimely built) (is_alone Build a at (dense (drop at line)) h) s
-by-timely built total p letters word.Claim at line a s h =
+    subst (IsTimely form built) e (record { of_form = tt; stands = s.early refl })
+by-timely form built total p letters word.Build at line a s h =
+    subst (IsTimely form built) (is_alone Build a at (dense (drop at line)) h) (record { of_form = tt; stands = s.early refl })
+by-timely form built total p letters word.Polynomial at line a s h =
+    let g = got (poly_at p letters at line) (λ f. Ok (Polynomial f)) a h in
+    let e : Polynomial g.0 ≡ a = cc in
+    subst (IsTimely form built) e (record { of_form = s.of_form; stands = s.late refl })
+by-timely form built total p letters word.Prove at line a s h =
+    let g = got (poly_at p letters at line) (λ f. Ok (Prove f)) a h in
+    let e : Prove g.0 ≡ a = cc in
+    subst (IsTimely form built) e (record { of_form = s.of_form; stands = s.late refl })
+by-timely form built total p letters word.Dimensions at line a s h =
+    subst (IsTimely form built) (is_alone Dimensions a at (dense (drop at line)) h) (record { of_form = s.of_form; stands = s.late refl })
+by-timely form built total p letters word.Table at line a s h =
+    subst (IsTimely form built) (is_alone Table a at (dense (drop at line)) h) (record { of_form = s.of_form; stands = s.late refl })
+by-timely form built total p letters word.Claim at line a s h =
     let g = got (poly_at p letters at line) (λ f. Ok (Claim f)) a h in
     let e : Claim g.0 ≡ a = cc in
-    subst (IsTimely built) e s
-by-timely built total p letters word.Quit at line a s h = subst (IsTimely built) (is_alone Quit a at (dense (drop at line)) h) s
-by-timely built total p letters word.Polynomial at line a s h = absurd s
-by-timely built total p letters word.Prove at line a s h = absurd s
-by-timely built total p letters word.Dimensions at line a s h = absurd s
-by-timely built total p letters word.Table at line a s h = absurd s
-by-timely built total p letters word.Await at line a s h = absurd s
+    subst (IsTimely form built) e (record { of_form = s.of_form; stands = s.late refl })
+by-timely form built total p letters word.Await at line a s h =
+    let g = got (degree_at total at line) (λ n. Ok (Await n)) a h in
+    let e : Await g.0 ≡ a = cc in
+    subst (IsTimely form built) e (record { of_form = s.of_form; stands = s.late refl })
+by-timely form built total p letters word.Quit at line a s h =
+    subst (IsTimely form built) (is_alone Quit a at (dense (drop at line)) h) (record { of_form = tt; stands = tt })
 
-from-timely : (built : Bool) (total p : ℕ) (letters : List ℕ) (start : ℕ) (line : List ℕ) (a : Asked) → asked_from Check built total p letters start line ≡ Ok a → IsTimely built a
+from-timely : (form : Form) (built : Bool) (total p : ℕ) (letters : List ℕ) (start : ℕ) (line : List ℕ) (a : Asked) → asked_from form built total p letters start line ≡ Ok a → IsTimely form built a
 unfolding asked_from word_of
-from-timely built total p letters start line a h =
+from-timely form built total p letters start line a h =
     let n = word_length (drop start line) in
-    let g = got (word_of Check built (take n (drop start line))) (λ w. asked_by total p letters w (start + n) line) a h in
-    by-timely built total p letters g.0 (start + n) line a (word-stands built (word_named (take n (drop start line))) g.0 g.1) g.2
+    let g = got (word_of form built (take n (drop start line))) (λ w. asked_by total p letters w (start + n) line) a h in
+    by-timely form built total p letters g.0 (start + n) line a (word-stands form built (word_named (take n (drop start line))) g.0 g.1) g.2
 
-comment-timely : (b built : Bool) (o : Result Asked CommandError) (a : Asked) → (o ≡ Ok a → IsTimely built a) → (if b then Ok Blank else o) ≡ Ok a → IsTimely built a
-comment-timely true built o a k h = let e : Blank ≡ a = cc in subst (IsTimely built) e tt
-comment-timely false built o a k h = k h
+blank-timely : (form : Form) (built : Bool) → IsTimely form built Blank
+blank-timely form built = record { of_form = tt; stands = tt }
 
-at-timely : (built : Bool) (total p : ℕ) (letters : List ℕ) (o : Option ℕ) (line : List ℕ) (a : Asked) → asked_at Check built total p letters o line ≡ Ok a → IsTimely built a
-at-timely built total p letters None line a h = let e : Blank ≡ a = cc in subst (IsTimely built) e tt
-at-timely built total p letters (Some start) line a h =
-    comment-timely (slice_index line start == 35) built (asked_from Check built total p letters start line) a (from-timely built total p letters start line a) h
+comment-timely : (b : Bool) (form : Form) (built : Bool) (o : Result Asked CommandError) (a : Asked) → (o ≡ Ok a → IsTimely form built a) → (if b then Ok Blank else o) ≡ Ok a → IsTimely form built a
+comment-timely true form built o a k h = let e : Blank ≡ a = cc in subst (IsTimely form built) e (blank-timely form built)
+comment-timely false form built o a k h = k h
+
+at-timely : (form : Form) (built : Bool) (total p : ℕ) (letters : List ℕ) (o : Option ℕ) (line : List ℕ) (a : Asked) → asked_at form built total p letters o line ≡ Ok a → IsTimely form built a
+at-timely form built total p letters None line a h = let e : Blank ≡ a = cc in subst (IsTimely form built) e (blank-timely form built)
+at-timely form built total p letters (Some start) line a h =
+    comment-timely (slice_index line start == 35) form built (asked_from form built total p letters start line) a (from-timely form built total p letters start line a) h
 
 -- a command stands where its word may stand
-pub asked-timely : (built : Bool) (total p : ℕ) (letters line : List ℕ) (a : Asked) → asked Check built total p letters line ≡ Ok a → IsTimely built a
+pub asked-timely : (form : Form) (built : Bool) (total p : ℕ) (letters line : List ℕ) (a : Asked) → asked form built total p letters line ≡ Ok a → IsTimely form built a
 unfolding asked
-asked-timely built total p letters line a h = at-timely built total p letters (dense line) line a h
+asked-timely form built total p letters line a h = at-timely form built total p letters (dense line) line a h
 
 -- ---- identities
 
-abbrev IsKnown : Asked → Type 0
+-- an identity is over the letters a to z
+abbrev pub IsKnown : Asked → Type 0
 IsKnown (Identity f) = All (λ t. IsTrue (are_below 26 t.1)) f
 IsKnown other = Unit {0}
 
@@ -165,23 +187,31 @@ by-known total p letters word.Await at line a h =
     subst IsKnown e tt
 by-known total p letters word.Quit at line a h = subst IsKnown (is_alone Quit a at (dense (drop at line)) h) tt
 
-from-known : (built : Bool) (total p : ℕ) (letters : List ℕ) (start : ℕ) (line : List ℕ) (a : Asked) → asked_from Check built total p letters start line ≡ Ok a → IsKnown a
+from-known : (form : Form) (built : Bool) (total p : ℕ) (letters : List ℕ) (start : ℕ) (line : List ℕ) (a : Asked) → asked_from form built total p letters start line ≡ Ok a → IsKnown a
 unfolding asked_from
-from-known built total p letters start line a h =
+from-known form built total p letters start line a h =
     let n = word_length (drop start line) in
-    let g = got (word_of Check built (take n (drop start line))) (λ w. asked_by total p letters w (start + n) line) a h in
+    let g = got (word_of form built (take n (drop start line))) (λ w. asked_by total p letters w (start + n) line) a h in
     by-known total p letters g.0 (start + n) line a g.2
 
 comment-known : (b : Bool) (o : Result Asked CommandError) (a : Asked) → (o ≡ Ok a → IsKnown a) → (if b then Ok Blank else o) ≡ Ok a → IsKnown a
 comment-known true o a k h = let e : Blank ≡ a = cc in subst IsKnown e tt
 comment-known false o a k h = k h
 
-at-known : (built : Bool) (total p : ℕ) (letters : List ℕ) (o : Option ℕ) (line : List ℕ) (a : Asked) → asked_at Check built total p letters o line ≡ Ok a → IsKnown a
-at-known built total p letters None line a h = let e : Blank ≡ a = cc in subst IsKnown e tt
-at-known built total p letters (Some start) line a h =
-    comment-known (slice_index line start == 35) (asked_from Check built total p letters start line) a (from-known built total p letters start line a) h
+at-known : (form : Form) (built : Bool) (total p : ℕ) (letters : List ℕ) (o : Option ℕ) (line : List ℕ) (a : Asked) → asked_at form built total p letters o line ≡ Ok a → IsKnown a
+at-known form built total p letters None line a h = let e : Blank ≡ a = cc in subst IsKnown e tt
+at-known form built total p letters (Some start) line a h =
+    comment-known (slice_index line start == 35) (asked_from form built total p letters start line) a (from-known form built total p letters start line a) h
 
 -- an identity is over the letters a to z
-pub asked-known : (built : Bool) (total p : ℕ) (letters line : List ℕ) (f : Poly) → asked Check built total p letters line ≡ Ok (Identity f) → All (λ t. IsTrue (are_below 26 t.1)) f
+pub asked-known : (form : Form) (built : Bool) (total p : ℕ) (letters line : List ℕ) (a : Asked) → asked form built total p letters line ≡ Ok a → IsKnown a
 unfolding asked
-asked-known built total p letters line f h = at-known built total p letters (dense line) line (Identity f) h
+asked-known form built total p letters line a h = at-known form built total p letters (dense line) line a h
+
+-- ---- claims
+
+-- claims stand in a check alone
+pub claim-form : (form : Form) → belongs form word.Claim ≡ true → form ≡ forms.Check
+claim-form forms.Batch h = absurd (cc)
+claim-form forms.Check h = refl
+claim-form forms.Session h = absurd (cc)

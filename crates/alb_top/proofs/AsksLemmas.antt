@@ -9,9 +9,9 @@ use Rattle.alb_script.specs.declared.command.Command.TheVariants as command
 use Rattle.alb_script.specs.declared.error.CommandError.{CommandError}
 use Rattle.alb_script.specs.declared.error.CommandError.TheVariants as error
 use Rattle.alb_script.specs.declared.refusal.Refusal.TheVariants as refusal
-use Rattle.alb_top.specs.Script.{State, letters_of, total_of, asked_of, begins_claim}
+use Rattle.alb_top.specs.Script.{State, letters_of, total_of, asked_of, begins_block}
 use Rattle.alb_top.specs.View.{IsTimely, AsksFor, MayBeAsked, CanBeWritten, asks_of, of_command}
-use Rattle.alb_top.proofs.AskedLemmas.{asked-timely}
+use Rattle.alb_top.proofs.AskedLemmas.{asked-timely, claim-form}
 
 pub command-asks : (c : Command) (s : State) (line : List ℕ) → asked_of s line ≡ Ok (view c) → AsksFor (asks_of c) s line
 command-asks command.Blank s line h = h
@@ -27,7 +27,7 @@ command-asks (command.Claim f) s line h = h
 command-asks (command.Await n) s line h = h
 command-asks command.Quit s line h = h
 
-may : (c : Command) (s : State) → IsTimely s.built (view c) → HasRead s.problem.field (length (letters_of s)) c → MayBeAsked (asks_of c) s
+may : (c : Command) (s : State) → IsTimely s.form s.built (view c) → HasRead s.problem.field (length (letters_of s)) c → MayBeAsked (asks_of c) s
 may command.Blank s t r = (tt, t, r)
 may (command.Field p) s t r = (tt, t, r)
 may (command.Generators ts end) s t r = (tt, t, r)
@@ -37,15 +37,15 @@ may (command.Polynomial f) s t r = (tt, t, r)
 may (command.Prove f) s t r = (tt, t, r)
 may command.Dimensions s t r = (tt, t, r)
 may command.Table s t r = (tt, t, r)
-may (command.Claim f) s t r = (t, r)
+may (command.Claim f) s t r = (claim-form s.form t.of_form, t.stands, r)
 may (command.Await n) s t r = (tt, t, r)
 may command.Quit s t r = (tt, t, r)
 
 pub command-may : (c : Command) (s : State) (line : List ℕ) → asked_of s line ≡ Ok (view c) → HasRead s.problem.field (length (letters_of s)) c → MayBeAsked (asks_of c) s
-command-may c s line h r = may c s (asked-timely s.built (total_of s) s.problem.field (letters_of s) line (view c) h) r
+command-may c s line h r = may c s (asked-timely s.form s.built (total_of s) s.problem.field (letters_of s) line (view c) h) r
 
 -- a refusal, by whether the line begins with `claim`
-by_claim : (b : Bool) (e : CommandError) (s : State) (line : List ℕ) → begins_claim line ≡ b → asked_of s line ≡ Err e → CanBeWritten (refusal.Command e) → (e ≡ error.NoMemory → ⊥)
+by_claim : (b : Bool) (e : CommandError) (s : State) (line : List ℕ) → begins_block s.form line ≡ b → asked_of s line ≡ Err e → CanBeWritten (refusal.Command e) → (e ≡ error.NoMemory → ⊥)
     → IfOk (of_command b e) (λ a. AsksFor a s line × MayBeAsked a s)
 by_claim true error.Unknown s line is h w n = ((h, is), w)
 by_claim false error.Unknown s line is h w n = ((h, is), w)
@@ -61,18 +61,18 @@ by_claim true (error.Syntax e) s line is h w n = ((h, is), w)
 by_claim false (error.Syntax e) s line is h w n = ((h, is), w)
 by_claim b error.NoMemory s line is h w n = absurd (n refl)
 
-pub refusal-asks : (e : CommandError) (s : State) (line : List ℕ) → Fails e (asked_of s line) → IsPlain e → IfOk (of_command (begins_claim line) e) (λ a. AsksFor a s line × MayBeAsked a s)
-refusal-asks error.Unknown s line h p = by_claim (begins_claim line) error.Unknown s line refl h (record { memory = refl; known = tt }) (λ e. cc)
-refusal-asks error.NotYetBuilt s line h p = by_claim (begins_claim line) error.NotYetBuilt s line refl h (record { memory = refl; known = tt }) (λ e. cc)
-refusal-asks error.AlreadyBuilt s line h p = by_claim (begins_claim line) error.AlreadyBuilt s line refl h (record { memory = refl; known = tt }) (λ e. cc)
-refusal-asks (error.BadArgument place) s line h p = by_claim (begins_claim line) (error.BadArgument place) s line refl h (record { memory = refl; known = tt }) (λ e. cc)
-refusal-asks (error.Lex (lex.BadByte place)) s line h p = by_claim (begins_claim line) (error.Lex (lex.BadByte place)) s line refl h (record { memory = refl; known = tt }) (λ e. cc)
-refusal-asks (error.Lex (lex.NumberTooLong place)) s line h p = by_claim (begins_claim line) (error.Lex (lex.NumberTooLong place)) s line refl h (record { memory = refl; known = tt }) (λ e. cc)
+pub refusal-asks : (e : CommandError) (s : State) (line : List ℕ) → Fails e (asked_of s line) → IsPlain e → IfOk (of_command (begins_block s.form line) e) (λ a. AsksFor a s line × MayBeAsked a s)
+refusal-asks error.Unknown s line h p = by_claim (begins_block s.form line) error.Unknown s line refl h (record { memory = refl; known = tt }) (λ e. cc)
+refusal-asks error.NotYetBuilt s line h p = by_claim (begins_block s.form line) error.NotYetBuilt s line refl h (record { memory = refl; known = tt }) (λ e. cc)
+refusal-asks error.AlreadyBuilt s line h p = by_claim (begins_block s.form line) error.AlreadyBuilt s line refl h (record { memory = refl; known = tt }) (λ e. cc)
+refusal-asks (error.BadArgument place) s line h p = by_claim (begins_block s.form line) (error.BadArgument place) s line refl h (record { memory = refl; known = tt }) (λ e. cc)
+refusal-asks (error.Lex (lex.BadByte place)) s line h p = by_claim (begins_block s.form line) (error.Lex (lex.BadByte place)) s line refl h (record { memory = refl; known = tt }) (λ e. cc)
+refusal-asks (error.Lex (lex.NumberTooLong place)) s line h p = by_claim (begins_block s.form line) (error.Lex (lex.NumberTooLong place)) s line refl h (record { memory = refl; known = tt }) (λ e. cc)
 refusal-asks (error.Lex lex.NoMemory) s line h p = absurd p
-refusal-asks (error.Syntax (syntax.Expected place)) s line h p = by_claim (begins_claim line) (error.Syntax (syntax.Expected place)) s line refl h (record { memory = refl; known = tt }) (λ e. cc)
-refusal-asks (error.Syntax (syntax.UnknownLetter place)) s line h p = by_claim (begins_claim line) (error.Syntax (syntax.UnknownLetter place)) s line refl h (record { memory = refl; known = tt }) (λ e. cc)
-refusal-asks (error.Syntax (syntax.TooDeep place)) s line h p = by_claim (begins_claim line) (error.Syntax (syntax.TooDeep place)) s line refl h (record { memory = refl; known = tt }) (λ e. cc)
-refusal-asks (error.Syntax (syntax.TooManyTerms place)) s line h p = by_claim (begins_claim line) (error.Syntax (syntax.TooManyTerms place)) s line refl h (record { memory = refl; known = tt }) (λ e. cc)
-refusal-asks (error.Syntax (syntax.TooHigh place)) s line h p = by_claim (begins_claim line) (error.Syntax (syntax.TooHigh place)) s line refl h (record { memory = refl; known = tt }) (λ e. cc)
+refusal-asks (error.Syntax (syntax.Expected place)) s line h p = by_claim (begins_block s.form line) (error.Syntax (syntax.Expected place)) s line refl h (record { memory = refl; known = tt }) (λ e. cc)
+refusal-asks (error.Syntax (syntax.UnknownLetter place)) s line h p = by_claim (begins_block s.form line) (error.Syntax (syntax.UnknownLetter place)) s line refl h (record { memory = refl; known = tt }) (λ e. cc)
+refusal-asks (error.Syntax (syntax.TooDeep place)) s line h p = by_claim (begins_block s.form line) (error.Syntax (syntax.TooDeep place)) s line refl h (record { memory = refl; known = tt }) (λ e. cc)
+refusal-asks (error.Syntax (syntax.TooManyTerms place)) s line h p = by_claim (begins_block s.form line) (error.Syntax (syntax.TooManyTerms place)) s line refl h (record { memory = refl; known = tt }) (λ e. cc)
+refusal-asks (error.Syntax (syntax.TooHigh place)) s line h p = by_claim (begins_block s.form line) (error.Syntax (syntax.TooHigh place)) s line refl h (record { memory = refl; known = tt }) (λ e. cc)
 refusal-asks (error.Syntax syntax.NoMemory) s line h p = absurd p
 refusal-asks error.NoMemory s line h p = tt

@@ -1,8 +1,8 @@
 -- How a claim is answered behind its block.
-use Rattle.std.proofs.Common.{◌≡◌, ℕ, Bool, true, false, List, [], ◌∷◌, ◌++◌, map, Option, Result, Ok, Err, refl, sym, ap, ◌∙◌, subst}
+use Rattle.std.proofs.Common.{◌≡◌, ℕ, Bool, true, false, List, [], ◌∷◌, ◌++◌, map, Option, None, Result, Ok, Err, refl, sym, ap, ◌∙◌, subst}
 use Rattle.std.specs.Prelude.{if◌then◌else◌}
 use Rattle.alb_poly.specs.Poly.{Poly}
-use Rattle.alb_poly.specs.Instance.{Form}
+use Rattle.alb_poly.specs.Instance as instances
 use Rattle.alb_poly.specs.Rules.{forms}
 use Rattle.alb_io.specs.Reader.{Reader}
 use Rattle.alb_io.specs.declared.step.LineStep.TheVariants as step
@@ -10,6 +10,8 @@ use Rattle.alb_linear.specs.declared.identity.Identity.{Identity}
 use Rattle.alb_problem.specs.Builder.{linear_form}
 use Rattle.alb_problem.specs.Problem.{problem, IsAccepted}
 use Rattle.alb_problem.specs.declared.problem.Problem.{Problem}
+use Rattle.alb_script.specs.declared.form.Form.{Form}
+use Rattle.alb_script.specs.declared.form.Form.TheVariants as form
 use Rattle.alb_evidence.specs.Block as block
 use Rattle.alb_evidence.specs.Block.{evidence_of}
 use Rattle.alb_evidence.specs.Reads.{ReadsBlock, ReadsAs, Breaks}
@@ -22,7 +24,7 @@ use Rattle.alb_top.specs.Script as script
 use Rattle.alb_top.specs.Script.{State, NoBlock, Claimed, OfBlock, EndsBlock, Judges, tell, forms_of}
 use Rattle.alb_top.specs.Sound.{IsSound}
 use Rattle.alb_top.specs.View as views
-use Rattle.alb_top.specs.View.{state, judgement, said, is_asking, IsStage, IsScript}
+use Rattle.alb_top.specs.View.{state, judgement, said, is_built, table_of, IsStage, IsScript}
 use Rattle.alb_top.specs.Going.{TakesTurn, Gets, Stops, claimed}
 use Rattle.alb_top.specs.declared.judge.Judged.TheVariants as judged
 use Rattle.alb_top.specs.declared.reply.Reply.TheVariants as reply
@@ -37,9 +39,9 @@ use Rattle.alb_top.proofs.TurnLemmas.{lines-more, inside-claimed, block-taken, b
 
 -- claims about this problem may be made
 abbrev pub asking : Problem → Bool → State
-asking q clean = record { problem = problem q; built = true; block = NoBlock; closed = false; clean = clean }
+asking q clean = record { form = form.Check; problem = problem q; built = true; table = None; block = NoBlock; closed = false; clean = clean }
 
-map_poly : (g : Poly → Form) (fs : List Identity) → map g (map (λ (f : Identity). f.poly) fs) ≡ map (λ (f : Identity). g f.poly) fs
+map_poly : (g : Poly → instances.Form) (fs : List Identity) → map g (map (λ (f : Identity). f.poly) fs) ≡ map (λ (f : Identity). g f.poly) fs
 map_poly g [] = refl
 map_poly g (f ∷ fs) = ap (λ l. g f.poly ∷ l) (map_poly g fs)
 
@@ -125,10 +127,12 @@ claim-gets old new q f now now' (Err e) r j =
 
 -- ---- scripts
 
-pub asking-stage : (s : Script) (q : Problem) → s.stage ≡ stage.Asking q → (state s).closed ≡ false → state s ≡ asking q (state s).clean
-asking-stage s q is going =
-    ap (λ (t : Stage). record { problem = said t; built = is_asking t; block = NoBlock; closed = s.closed; clean = s.clean }) is
-    ∙ ap (λ (b : Bool). record { problem = problem q; built = true; block = NoBlock; closed = b; clean = s.clean }) going
+pub asking-stage : (s : Script) (q : Problem) → s.stage ≡ stage.Claiming q → s.form ≡ form.Check → (state s).closed ≡ false → state s ≡ asking q (state s).clean
+asking-stage s q is check going =
+    ap (λ (t : Stage). record { form = s.form; problem = said t; built = is_built t; table = table_of t; block = NoBlock; closed = s.closed; clean = s.clean }) is
+    ∙ ap (λ (f : Form). record { form = f; problem = problem q; built = true; table = None; block = NoBlock; closed = s.closed; clean = s.clean }) check
+    ∙ ap (λ (b : Bool). record { form = form.Check; problem = problem q; built = true; table = None; block = NoBlock; closed = b; clean = s.clean }) going
 
-pub accepted-stage : (s : Script) (q : Problem) → s.stage ≡ stage.Asking q → IsScript s → IsAccepted q
-accepted-stage s q is h = subst IsStage is h
+pub accepted-stage : (s : Script) (q : Problem) → s.stage ≡ stage.Claiming q → IsScript s → IsAccepted q
+accepted-stage s q is h =
+    let t : IsStage s.form (stage.Claiming q) = subst (λ (t : Stage). IsStage s.form t) is h.stage in t.1

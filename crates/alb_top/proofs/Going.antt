@@ -1,5 +1,5 @@
 -- How a run goes on, and how it ends.
-use Rattle.std.proofs.Common.{◌≡◌, ℕ, ◌+◌, ◌^◌, Bool, true, false, List, [], ◌∷◌, ◌++◌, length, Option, refl, sym, ap, ◌∙◌, subst, inl, inr, append_assoc, arith}
+use Rattle.std.proofs.Common.{◌≡◌, ◌≢◌, ℕ, ◌+◌, ◌^◌, Bool, true, false, List, [], ◌∷◌, ◌++◌, length, Option, refl, sym, ap, ◌∙◌, subst, inl, inr, append_assoc, arith}
 use Rattle.std.specs.Io.KnownBytes.{Appends}
 use Rattle.std.proofs.KnownBytes.{Consumes-nil, Appends-nil, Appends-trans}
 use Rattle.std.proofs.lemmas.List.{append-nil, length-append}
@@ -7,20 +7,22 @@ use Rattle.alb_io.specs.Lines.{lines_of}
 use Rattle.alb_io.specs.Puts.{AppendsFront}
 use Rattle.alb_io.specs.Reader.{Reader}
 use Rattle.alb_io.specs.Reading.{Reading, IsAll}
+use Rattle.alb_io.specs.declared.status.Status.{Status}
 use Rattle.alb_io.specs.declared.status.Status.TheVariants as status
 use Rattle.alb_io.specs.declared.step.LineStep.TheVariants as step
 use Rattle.alb_io.proofs.Readings.{Reading-start, Reading-first, Reading-end, Reading-cut, Reading-lines}
 use Rattle.alb_evidence.specs.Reads.{ReadsLines}
+use Rattle.alb_script.specs.declared.form.Form.{Form}
 use Rattle.alb_top.specs.Runs.{Run}
 use Rattle.alb_top.specs.Script.{State, Reply, start, Step, EndsBlock, AnswersEnd, text_of}
 use Rattle.alb_top.specs.Sound.{IsSound}
 use Rattle.alb_top.specs.Outcome.{IsTranscript, IsFront, IsRead, Writes, status_of}
-use Rattle.alb_top.specs.Going.{Going, AnswersLines, EndsLines, Stops, Gets, Outcome}
+use Rattle.alb_top.specs.Going.{Going, AnswersLines, EndsLines, Stops, Gets, Outcome, IsIdle}
 use Rattle.alb_top.proofs.SoundLemmas.{sound-start, finish-some}
 use Rattle.alb_top.proofs.RunLemmas.{Run-sound, Run-join, Run-some, Run-closed, Finish-closed}
 
-pub Going-start : (reader : Reader) (first before : Option (List ℕ)) → reader.held ≡ [] → reader.at_end ≡ false → reader.room ≡ 2 ^ 40 → Going reader start first first before before
-Going-start reader first before none running room = record {
+pub Going-start : (form : Form) (reader : Reader) (first before : Option (List ℕ)) → reader.held ≡ [] → reader.at_end ≡ false → reader.room ≡ 2 ^ 40 → Going form reader (start form) first first before before
+Going-start form reader first before none running room = record {
   taken = [];
   lines = [];
   text = [];
@@ -30,8 +32,8 @@ Going-start reader first before none running room = record {
   room = omega (arith, room);
 }
 
-pub Going-sound : (reader : Reader) (script : State) (first now before after : Option (List ℕ)) → Going reader script first now before after → IsSound script
-Going-sound reader script first now before after p = Run-sound start script p.lines p.text sound-start p.run
+pub Going-sound : (form : Form) (reader : Reader) (script : State) (first now before after : Option (List ℕ)) → Going form reader script first now before after → IsSound script
+Going-sound form reader script first now before after p = Run-sound (start form) script p.lines p.text (sound-start form) p.run
 
 -- ---- reading
 
@@ -60,10 +62,10 @@ reads-on taken lines (line ∷ more) old new first now now' p r =
     }
 
 -- lines were read and answered
-pub Going-lines : (old new : Reader) (script next : State) (first now now' before after after' : Option (List ℕ)) (reply : Reply)
-    → Going old script first now before after → AnswersLines old new script next now now' reply → Appends after after' (text_of reply)
-    → Going new next first now' before after'
-Going-lines old new script next first now now' before after after' reply p a put =
+pub Going-lines : (form : Form) (old new : Reader) (script next : State) (first now now' before after after' : Option (List ℕ)) (reply : Reply)
+    → Going form old script first now before after → AnswersLines old new script next now now' reply → Appends after after' (text_of reply)
+    → Going form new next first now' before after'
+Going-lines form old new script next first now now' before after after' reply p a put =
     let on = reads-on p.taken p.lines a.lines old new first now now' p.reading a.reads in
     record {
       taken = p.taken ++ on.got;
@@ -71,14 +73,14 @@ Going-lines old new script next first now now' before after after' reply p a put
       text = p.text ++ text_of reply;
       reading = on.reading;
       written = Appends-trans before after after' p.text (text_of reply) p.written put;
-      run = Run-join Step start script next p.lines a.lines p.text (text_of reply) p.run a.run;
+      run = Run-join Step (start form) script next p.lines a.lines p.text (text_of reply) p.run a.run;
       room = omega (arith, p.room, on.room, length-append p.taken on.got);
     }
 
 -- lines were read that ask for no answer
-going-quietly : (old new : Reader) (script next : State) (first now now' before after : Option (List ℕ)) (lines : List (List ℕ))
-    → Going old script first now before after → ReadsLines lines old new now now' → Run Step script lines [] next → Going new next first now' before after
-going-quietly old new script next first now now' before after lines p r run =
+going-quietly : (form : Form) (old new : Reader) (script next : State) (first now now' before after : Option (List ℕ)) (lines : List (List ℕ))
+    → Going form old script first now before after → ReadsLines lines old new now now' → Run Step script lines [] next → Going form new next first now' before after
+going-quietly form old new script next first now now' before after lines p r run =
     let on = reads-on p.taken p.lines lines old new first now now' p.reading r in
     record {
       taken = p.taken ++ on.got;
@@ -86,16 +88,16 @@ going-quietly old new script next first now now' before after lines p r run =
       text = p.text ++ [];
       reading = on.reading;
       written = subst (λ t. Appends before after t) (sym (append-nil p.text)) p.written;
-      run = Run-join Step start script next p.lines lines p.text [] p.run run;
+      run = Run-join Step (start form) script next p.lines lines p.text [] p.run run;
       room = omega (arith, p.room, on.room, length-append p.taken on.got);
     }
 
 -- ---- transcripts
 
 -- what was appended is a front of the transcript of the input
-front_of : (input : List ℕ) (lines more : List (List ℕ)) (text front rest : List ℕ) (script : State) → lines_of input ≡ lines ++ more → Run Step start lines text script → text ≡ front ++ rest → IsFront input front
-front_of input lines more text front rest script is run cut =
-    let sound = Run-sound start script lines text sound-start run in
+front_of : (form : Form) (input : List ℕ) (lines more : List (List ℕ)) (text front rest : List ℕ) (script : State) → lines_of input ≡ lines ++ more → Run Step (start form) lines text script → text ≡ front ++ rest → IsFront form input front
+front_of form input lines more text front rest script is run cut =
+    let sound = Run-sound (start form) script lines text (sound-start form) run in
     let others = Run-some script more sound in
     let end = finish-some others.1 (Run-sound script others.1 more others.0 sound others.2) in
     let whole : front ++ (rest ++ others.0 ++ end.0) ≡ (text ++ others.0) ++ end.0 =
@@ -110,49 +112,49 @@ front_of input lines more text front rest script is run cut =
           end.0,
           others.1,
           whole,
-          subst (λ l. Run Step start l (text ++ others.0) others.1) (sym is) (Run-join Step start script others.1 lines more text others.0 run others.2),
+          subst (λ l. Run Step (start form) l (text ++ others.0) others.1) (sym is) (Run-join Step (start form) script others.1 lines more text others.0 run others.2),
           end.2,
         );
         judged = refl;
       };
     }
 
-writes_status : (clean : Bool) (input taken text : List ℕ) → IsTranscript input text clean → IsRead input taken text → Writes (status_of clean) input taken text
-writes_status true input taken text p q = (p, q)
-writes_status false input taken text p q = (p, q)
+writes_status : (form : Form) (clean : Bool) (input taken text : List ℕ) → IsTranscript form input text clean → IsRead form input taken text → Writes form (status_of clean) input taken text
+writes_status form true input taken text p q = (p, q)
+writes_status form false input taken text p q = (p, q)
 
-ended_transcript : (input taken : List ℕ) (lines : List (List ℕ)) (text : List ℕ) (script next : State) (reply : Reply) → input ≡ taken → lines_of taken ≡ lines → Run Step start lines text script
-    → script.closed ≡ false → EndsBlock script.block script false reply next → IsTranscript input (text ++ text_of reply) next.clean
-ended_transcript input taken lines text script next reply all is run going ends = record {
+ended_transcript : (form : Form) (input taken : List ℕ) (lines : List (List ℕ)) (text : List ℕ) (script next : State) (reply : Reply) → input ≡ taken → lines_of taken ≡ lines → Run Step (start form) lines text script
+    → script.closed ≡ false → EndsBlock script.block script false reply next → IsTranscript form input (text ++ text_of reply) next.clean
+ended_transcript form input taken lines text script next reply all is run going ends = record {
   last = next;
-  answers = (text, text_of reply, script, refl, subst (λ l. Run Step start l text script) (sym (ap lines_of all ∙ is)) run, record { reply = reply; answers = subst (λ c. AnswersEnd c script reply next) (sym going) ends; told = refl });
+  answers = (text, text_of reply, script, refl, subst (λ l. Run Step (start form) l text script) (sym (ap lines_of all ∙ is)) run, record { reply = reply; answers = subst (λ c. AnswersEnd c script reply next) (sym going) ends; told = refl });
   judged = refl;
 }
 
-ended_writes : (input taken : List ℕ) (lines : List (List ℕ)) (text : List ℕ) (script next : State) (reply : Reply) → input ≡ taken → lines_of taken ≡ lines → Run Step start lines text script
-    → script.closed ≡ false → EndsBlock script.block script false reply next → Writes (status_of next.clean) input taken (text ++ text_of reply)
-ended_writes input taken lines text script next reply all is run going ends =
-    writes_status next.clean input taken _ (ended_transcript input taken lines text script next reply all is run going ends) (inl all)
+ended_writes : (form : Form) (input taken : List ℕ) (lines : List (List ℕ)) (text : List ℕ) (script next : State) (reply : Reply) → input ≡ taken → lines_of taken ≡ lines → Run Step (start form) lines text script
+    → script.closed ≡ false → EndsBlock script.block script false reply next → Writes form (status_of next.clean) input taken (text ++ text_of reply)
+ended_writes form input taken lines text script next reply all is run going ends =
+    writes_status form next.clean input taken _ (ended_transcript form input taken lines text script next reply all is run going ends) (inl all)
 
-front_of_end : (input taken : List ℕ) (lines : List (List ℕ)) (text front rest : List ℕ) (script next : State) (reply : Reply) → input ≡ taken → lines_of taken ≡ lines → Run Step start lines text script
-    → script.closed ≡ false → EndsBlock script.block script false reply next → text_of reply ≡ front ++ rest → IsFront input (text ++ front)
-front_of_end input taken lines text front rest script next reply all is run going ends cut = record {
+front_of_end : (form : Form) (input taken : List ℕ) (lines : List (List ℕ)) (text front rest : List ℕ) (script next : State) (reply : Reply) → input ≡ taken → lines_of taken ≡ lines → Run Step (start form) lines text script
+    → script.closed ≡ false → EndsBlock script.block script false reply next → text_of reply ≡ front ++ rest → IsFront form input (text ++ front)
+front_of_end form input taken lines text front rest script next reply all is run going ends cut = record {
   rest = rest;
   clean = next.clean;
-  transcript = subst (λ l. IsTranscript input l next.clean) (ap (λ l. text ++ l) cut ∙ sym (append_assoc text front rest)) (ended_transcript input taken lines text script next reply all is run going ends);
+  transcript = subst (λ l. IsTranscript form input l next.clean) (ap (λ l. text ++ l) cut ∙ sym (append_assoc text front rest)) (ended_transcript form input taken lines text script next reply all is run going ends);
 }
 
-closed_writes : (input : List ℕ) (lines more : List (List ℕ)) (text : List ℕ) (script : State) → lines_of input ≡ lines ++ more → Run Step start lines text script → script.closed ≡ true
-    → (taken : List ℕ) → Writes (status_of script.clean) input taken text
-closed_writes input lines more text script is run closed taken =
-    writes_status script.clean input taken text (record {
+closed_writes : (form : Form) (input : List ℕ) (lines more : List (List ℕ)) (text : List ℕ) (script : State) → lines_of input ≡ lines ++ more → Run Step (start form) lines text script → script.closed ≡ true
+    → (taken : List ℕ) → Writes form (status_of script.clean) input taken text
+closed_writes form input lines more text script is run closed taken =
+    writes_status form script.clean input taken text (record {
       last = script;
       answers = (
         text ++ [],
         [],
         script,
         sym (append-nil (text ++ []) ∙ append-nil text),
-        subst (λ l. Run Step start l (text ++ []) script) (sym is) (Run-join Step start script script lines more text [] run (Run-closed script more closed)),
+        subst (λ l. Run Step (start form) l (text ++ []) script) (sym is) (Run-join Step (start form) script script lines more text [] run (Run-closed script more closed)),
         Finish-closed script closed,
       );
       judged = refl;
@@ -161,11 +163,11 @@ closed_writes input lines more text script is run closed taken =
 -- ---- outcomes
 
 -- the input ended
-pub Outcome-end : (old new : Reader) (script next : State) (first now now' before after after' : Option (List ℕ)) (reply : Reply)
-    → Going old script first now before after → EndsLines old new script next now now' reply → Appends after after' (text_of reply)
-    → Outcome (status_of next.clean) first now' before after'
-Outcome-end old new script next first now now' before after after' reply p a put =
-    let q = going-quietly old a.pauses.last script a.mid first now a.pauses.between before after a.pauses.lines p a.pauses.inside a.pauses.run in
+pub Outcome-end : (form : Form) (old new : Reader) (script next : State) (first now now' before after after' : Option (List ℕ)) (reply : Reply)
+    → Going form old script first now before after → EndsLines old new script next now now' reply → Appends after after' (text_of reply)
+    → Outcome form (status_of next.clean) first now' before after'
+Outcome-end form old new script next first now now' before after after' reply p a put =
+    let q = going-quietly form old a.pauses.last script a.mid first now a.pauses.between before after a.pauses.lines p a.pauses.inside a.pauses.run in
     let r = a.pauses.breaks in
     let end = Reading-end q.taken q.lines a.pauses.last new first a.pauses.between now' q.reading r in
     record {
@@ -173,14 +175,14 @@ Outcome-end old new script next first now now' before after after' reply p a put
       text = q.text ++ text_of reply;
       consumed = end.0;
       written = Appends-trans before after after' q.text (text_of reply) q.written put;
-      writes = λ input told. ended_writes input (q.taken ++ r.got) q.lines q.text a.mid next reply (subst (λ o. IsAll o (q.taken ++ r.got)) told end.2) end.1 q.run a.pauses.runs a.ends;
+      writes = λ input told. ended_writes form input (q.taken ++ r.got) q.lines q.text a.mid next reply (subst (λ o. IsAll o (q.taken ++ r.got)) told end.2) end.1 q.run a.pauses.runs a.ends;
     }
 
-pub Outcome-end_fault : (old new : Reader) (script next : State) (first now now' before after after' : Option (List ℕ)) (reply : Reply)
-    → Going old script first now before after → EndsLines old new script next now now' reply → AppendsFront after after' (text_of reply)
-    → Outcome status.WriteFault first now' before after'
-Outcome-end_fault old new script next first now now' before after after' reply p a put =
-    let q = going-quietly old a.pauses.last script a.mid first now a.pauses.between before after a.pauses.lines p a.pauses.inside a.pauses.run in
+pub Outcome-end_fault : (form : Form) (old new : Reader) (script next : State) (first now now' before after after' : Option (List ℕ)) (reply : Reply)
+    → Going form old script first now before after → EndsLines old new script next now now' reply → AppendsFront after after' (text_of reply)
+    → Outcome form status.WriteFault first now' before after'
+Outcome-end_fault form old new script next first now now' before after after' reply p a put =
+    let q = going-quietly form old a.pauses.last script a.mid first now a.pauses.between before after a.pauses.lines p a.pauses.inside a.pauses.run in
     let r = a.pauses.breaks in
     let end = Reading-end q.taken q.lines a.pauses.last new first a.pauses.between now' q.reading r in
     record {
@@ -188,28 +190,28 @@ Outcome-end_fault old new script next first now now' before after after' reply p
       text = q.text ++ put.front;
       consumed = end.0;
       written = Appends-trans before after after' q.text put.front q.written put.taken;
-      writes = λ input told. front_of_end input (q.taken ++ r.got) q.lines q.text put.front put.rest a.mid next reply (subst (λ o. IsAll o (q.taken ++ r.got)) told end.2) end.1 q.run a.pauses.runs a.ends put.whole;
+      writes = λ input told. front_of_end form input (q.taken ++ r.got) q.lines q.text put.front put.rest a.mid next reply (subst (λ o. IsAll o (q.taken ++ r.got)) told end.2) end.1 q.run a.pauses.runs a.ends put.whole;
     }
 
 -- the script ended
-pub Outcome-closed : (reader : Reader) (script : State) (first now before after : Option (List ℕ)) → Going reader script first now before after → script.closed ≡ true
-    → Outcome (status_of script.clean) first now before after
-Outcome-closed reader script first now before after p closed = record {
+pub Outcome-closed : (form : Form) (reader : Reader) (script : State) (first now before after : Option (List ℕ)) → Going form reader script first now before after → script.closed ≡ true
+    → Outcome form (status_of script.clean) first now before after
+Outcome-closed form reader script first now before after p closed = record {
   taken = p.taken;
   text = p.text;
   consumed = p.reading.consumed;
   written = p.written;
   writes = λ input told.
       let more = Reading-lines p.taken p.lines reader first now input p.reading told in
-      closed_writes input p.lines more.0 p.text script more.1 p.run closed p.taken;
+      closed_writes form input p.lines more.0 p.text script more.1 p.run closed p.taken;
 }
 
 -- the source failed
-pub Outcome-read_fault : (old new : Reader) (script : State) (first now now' before after : Option (List ℕ)) → Going old script first now before after → Stops step.ReadFault old new script now now'
-    → Outcome status.ReadFault first now' before after
-Outcome-read_fault old new script first now now' before after p s =
+pub Outcome-read_fault : (form : Form) (old new : Reader) (script : State) (first now now' before after : Option (List ℕ)) → Going form old script first now before after → Stops step.ReadFault old new script now now'
+    → Outcome form status.ReadFault first now' before after
+Outcome-read_fault form old new script first now now' before after p s =
     let a = s.1 in
-    let q = going-quietly old a.last script s.0 first now a.between before after a.lines p a.inside a.run in
+    let q = going-quietly form old a.last script s.0 first now a.between before after a.lines p a.inside a.run in
     let r = a.breaks in
     let cut = Reading-cut q.taken q.lines a.last new first a.between now' step.ReadFault q.reading r r.gives.0 r.gives.2 in
     record {
@@ -217,14 +219,14 @@ Outcome-read_fault old new script first now now' before after p s =
       text = q.text;
       consumed = cut.0;
       written = q.written;
-      writes = λ input told. record { last = s.0; run = subst (λ l. Run Step start l q.text s.0) (sym cut.1) q.run; runs = a.runs };
+      writes = λ input told. record { last = s.0; run = subst (λ l. Run Step (start form) l q.text s.0) (sym cut.1) q.run; runs = a.runs };
     }
 
-pub Outcome-limit : (old new : Reader) (script : State) (first now now' before after : Option (List ℕ)) → Going old script first now before after → Stops step.InputLimit old new script now now'
-    → Outcome status.InputLimit first now' before after
-Outcome-limit old new script first now now' before after p s =
+pub Outcome-limit : (form : Form) (old new : Reader) (script : State) (first now now' before after : Option (List ℕ)) → Going form old script first now before after → Stops step.InputLimit old new script now now'
+    → Outcome form status.InputLimit first now' before after
+Outcome-limit form old new script first now now' before after p s =
     let a = s.1 in
-    let q = going-quietly old a.last script s.0 first now a.between before after a.lines p a.inside a.run in
+    let q = going-quietly form old a.last script s.0 first now a.between before after a.lines p a.inside a.run in
     let r = a.breaks in
     let cut = Reading-cut q.taken q.lines a.last new first a.between now' step.InputLimit q.reading r r.gives.0 r.gives.2 in
     record {
@@ -233,16 +235,16 @@ Outcome-limit old new script first now now' before after p s =
       consumed = cut.0;
       written = q.written;
       writes = λ input told. (
-        record { last = s.0; run = subst (λ l. Run Step start l q.text s.0) (sym cut.1) q.run; runs = a.runs },
+        record { last = s.0; run = subst (λ l. Run Step (start form) l q.text s.0) (sym cut.1) q.run; runs = a.runs },
         omega (arith, q.room, r.room, r.gives.3, length-append q.taken r.got),
       );
     }
 
 -- lines were read, and their answer was not written whole
-pub Outcome-write_fault : (old new : Reader) (script next : State) (first now now' before after after' : Option (List ℕ)) (reply : Reply)
-    → Going old script first now before after → AnswersLines old new script next now now' reply → AppendsFront after after' (text_of reply)
-    → Outcome status.WriteFault first now' before after'
-Outcome-write_fault old new script next first now now' before after after' reply p a put =
+pub Outcome-write_fault : (form : Form) (old new : Reader) (script next : State) (first now now' before after after' : Option (List ℕ)) (reply : Reply)
+    → Going form old script first now before after → AnswersLines old new script next now now' reply → AppendsFront after after' (text_of reply)
+    → Outcome form status.WriteFault first now' before after'
+Outcome-write_fault form old new script next first now now' before after after' reply p a put =
     let on = reads-on p.taken p.lines a.lines old new first now now' p.reading a.reads in
     record {
       taken = p.taken ++ on.got;
@@ -251,14 +253,14 @@ Outcome-write_fault old new script next first now now' before after after' reply
       written = Appends-trans before after after' p.text put.front p.written put.taken;
       writes = λ input told.
           let more = Reading-lines (p.taken ++ on.got) (p.lines ++ a.lines) new first now' input on.reading told in
-          front_of input (p.lines ++ a.lines) more.0 (p.text ++ text_of reply) (p.text ++ put.front) put.rest next more.1 (Run-join Step start script next p.lines a.lines p.text (text_of reply) p.run a.run)
+          front_of form input (p.lines ++ a.lines) more.0 (p.text ++ text_of reply) (p.text ++ put.front) put.rest next more.1 (Run-join Step (start form) script next p.lines a.lines p.text (text_of reply) p.run a.run)
           (ap (λ l. p.text ++ l) put.whole ∙ sym (append_assoc p.text put.front put.rest));
     }
 
 -- lines were read, and there was no memory to answer them
-pub Outcome-no_memory : (old new : Reader) (script : State) (first now now' before after : Option (List ℕ))
-    → Going old script first now before after → Gets old new now now' → Outcome status.NoMemory first now' before after
-Outcome-no_memory old new script first now now' before after p g =
+pub Outcome-no_memory : (form : Form) (old new : Reader) (script : State) (first now now' before after : Option (List ℕ))
+    → Going form old script first now before after → Gets old new now now' → Outcome form status.NoMemory first now' before after
+Outcome-no_memory form old new script first now now' before after p g =
     let on = reads-on p.taken p.lines g.lines old new first now now' p.reading g.reads in
     record {
       taken = p.taken ++ on.got;
@@ -267,24 +269,31 @@ Outcome-no_memory old new script first now now' before after p g =
       written = p.written;
       writes = λ input told.
           let more = Reading-lines (p.taken ++ on.got) (p.lines ++ g.lines) new first now' input on.reading told in
-          front_of input p.lines (g.lines ++ more.0) p.text p.text [] script (more.1 ∙ append_assoc p.lines g.lines more.0) p.run (sym (append-nil p.text));
+          front_of form input p.lines (g.lines ++ more.0) p.text p.text [] script (more.1 ∙ append_assoc p.lines g.lines more.0) p.run (sym (append-nil p.text));
     }
 
 -- nothing was read or written
-pub Outcome-nothing : (first before : Option (List ℕ)) → Outcome status.NoMemory first first before before
-Outcome-nothing first before = record {
+pub Outcome-nothing : (form : Form) (first before : Option (List ℕ)) → Outcome form status.NoMemory first first before before
+Outcome-nothing form first before = record {
   taken = [];
   text = [];
   consumed = Consumes-nil first;
   written = Appends-nil before;
-  writes = λ input told. front_of input [] (lines_of input) [] [] [] start refl (refl, refl) refl;
+  writes = λ input told. front_of form input [] (lines_of input) [] [] [] (start form) refl (refl, refl) refl;
 }
 
-pub Outcome-usage : (first before : Option (List ℕ)) → Outcome status.Usage first first before before
-Outcome-usage first before = record {
-  taken = [];
-  text = [];
-  consumed = Consumes-nil first;
-  written = Appends-nil before;
-  writes = λ input told. (refl, refl);
-}
+pub idle : (first before : Option (List ℕ)) → IsIdle first first before before
+idle first before = record { consumed = Consumes-nil first; written = Appends-nil before }
+
+-- ---- the status of a script that was read
+
+pub record IsPlain (s : Status) : Type 0 where
+  pub not_read : s ≢ status.ReadFault
+  pub not_write : s ≢ status.WriteFault
+  pub not_usage : s ≢ status.Usage
+  pub not_open : s ≢ status.OpenFault
+  pub not_report : s ≢ status.ReportFault
+
+pub plain_status : (clean : Bool) (s : Status) → s ≡ status_of clean → IsPlain s
+plain_status true s is = record { not_read = λ e. cc; not_write = λ e. cc; not_usage = λ e. cc; not_open = λ e. cc; not_report = λ e. cc }
+plain_status false s is = record { not_read = λ e. cc; not_write = λ e. cc; not_usage = λ e. cc; not_open = λ e. cc; not_report = λ e. cc }

@@ -1,8 +1,12 @@
 pub mod AskedLemmas
+pub mod ProblemLemmas
+pub mod QuestionLemmas
+pub mod Totality
 pub mod SoundLemmas
 pub mod RunLemmas
 pub mod TurnLemmas
 pub mod ClaimLemmas
+pub mod TopicLemmas
 pub mod RefusalLemmas
 pub mod AsksLemmas
 pub mod Going

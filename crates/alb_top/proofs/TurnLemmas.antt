@@ -13,7 +13,7 @@ use Rattle.alb_script.specs.Asked.{Asked, Claim}
 use Rattle.alb_script.specs.Refusals.{command_text}
 use Rattle.alb_script.specs.declared.error.CommandError.{CommandError}
 use Rattle.alb_top.specs.Runs.{Run}
-use Rattle.alb_top.specs.Script.{State, Open, NoBlock, Claimed, Refused, Reply, Nothing, Step, AnswersLine, AnswersIn, OfBlock, EndsBlock, command, obey, obey_line, begins_claim, asked_of, text_of, tell, RefusedLine}
+use Rattle.alb_top.specs.Script.{State, Open, NoBlock, Claimed, Refused, Reply, Nothing, Step, AnswersLine, AnswersIn, OfBlock, EndsBlock, Obeys, ObeysLine, Commands, begins_block, asked_of, text_of, tell, RefusedLine}
 use Rattle.alb_top.specs.View.{state, answer}
 use Rattle.alb_top.specs.declared.reply.Reply as Rust
 use Rattle.alb_top.specs.declared.script.Script.{Script}
@@ -50,29 +50,24 @@ lines-more (x ∷ lines) line old mid new now between now' r s = (r.0, r.1, r.2,
 -- ---- steps
 
 -- a line outside all blocks
-pub step-command : (s new : State) (line : List ℕ) (reply : Reply) → s.closed ≡ false → s.block ≡ NoBlock → (reply, new) ≡ command s line → Step s line (text_of reply) new
+pub step-command : (s new : State) (line : List ℕ) (reply : Reply) → s.closed ≡ false → s.block ≡ NoBlock → Commands (nat_lt 65536 (length line)) s line reply new → Step s line (text_of reply) new
 step-command s new line reply going out is = record {
   reply = reply;
   answers = subst (λ c. AnswersLine c s line reply new) (sym going) (subst (λ o. AnswersIn o s line reply new) (sym out) is);
   told = refl;
 }
 
-short_command : (b : Bool) (s : State) (line : List ℕ) (r : Result Asked CommandError) → b ≡ false → asked_of s line ≡ r
-    → (if b then tell (RefusedLine (codes "refused 84\n")) s else obey_line s line (asked_of s line)) ≡ obey_line s line r
-short_command false s line r short is = ap (obey_line s line) is
-short_command true s line r short is = absurd (cc)
-
 -- a line that is not too long is obeyed
-pub command-short : (s : State) (line : List ℕ) (r : Result Asked CommandError) → length line ≤ 65536 → asked_of s line ≡ r → command s line ≡ obey_line s line r
-command-short s line r short is = short_command (nat_lt 65536 (length line)) s line r (grind (arith, nat_tests)) is
+pub commands-short : (s new : State) (line : List ℕ) (reply : Reply) (r : Result Asked CommandError) → length line ≤ 65536 → asked_of s line ≡ r → ObeysLine s line r reply new
+    → Commands (nat_lt 65536 (length line)) s line reply new
+commands-short s new line reply r short is h =
+    let e : nat_lt 65536 (length line) ≡ false = grind (arith, nat_tests) in
+    subst (λ b. Commands b s line reply new) (sym e) (subst (λ (x : Result Asked CommandError). ObeysLine s line x reply new) (sym is) h)
 
-long_command : (b : Bool) (s : State) (line : List ℕ) → b ≡ true
-    → (if b then tell (RefusedLine (codes "refused 84\n")) s else obey_line s line (asked_of s line)) ≡ tell (RefusedLine (codes "refused 84\n")) s
-long_command true s line long = refl
-long_command false s line long = absurd (cc)
-
-pub command-long : (s : State) (line : List ℕ) → 65536 < length line → command s line ≡ tell (RefusedLine (codes "refused 84\n")) s
-command-long s line long = long_command (nat_lt 65536 (length line)) s line (grind (arith, nat_tests))
+pub commands-long : (s new : State) (line : List ℕ) (reply : Reply) → 65536 < length line → (reply, new) ≡ tell (RefusedLine (codes "refused 84\n")) s → Commands (nat_lt 65536 (length line)) s line reply new
+commands-long s new line reply long h =
+    let e : nat_lt 65536 (length line) ≡ true = grind (arith, nat_tests) in
+    subst (λ b. Commands b s line reply new) (sym e) h
 
 -- the lines of a claim's block, up to its end
 pub inside-claimed : (s : State) (f : Poly) (before lines : List (List ℕ)) → s.closed ≡ false → HasNoEnd lines
@@ -212,31 +207,32 @@ refused-taken old new s text now now' lines has_end reply next ended taken going
 -- ---- what a line asks for
 
 pub step-obeyed : (s new : State) (line : List ℕ) (reply : Reply) (a : Asked) → s.closed ≡ false → s.block ≡ NoBlock → length line ≤ 65536 → asked_of s line ≡ Ok a
-    → (reply, new) ≡ obey s a → Step s line (text_of reply) new
-step-obeyed s new line reply a going out short is told = step-command s new line reply going out (told ∙ sym (command-short s line (Ok a) short is))
+    → Obeys s a reply new → Step s line (text_of reply) new
+step-obeyed s new line reply a going out short is told = step-command s new line reply going out (commands-short s new line reply (Ok a) short is told)
 
 pub step-claimed : (s : State) (line : List ℕ) (f : Poly) → s.closed ≡ false → s.block ≡ NoBlock → length line ≤ 65536 → asked_of s line ≡ Ok (Claim f) → Step s line [] (claimed f s)
-step-claimed s line f going out short is = step-command s (claimed f s) line Nothing going out (sym (command-short s line (Ok (Claim f)) short is))
+step-claimed s line f going out short is = step-command s (claimed f s) line Nothing going out (commands-short s (claimed f s) line Nothing (Ok (Claim f)) short is refl)
 
 refuse_claim : (b : Bool) (s : State) (e : CommandError) → b ≡ true
     → (if b then tell Nothing (record s { block = Refused (command_text e) }) else tell (RefusedLine (command_text e)) s) ≡ (Nothing, record s { block = Refused (command_text e) })
 refuse_claim true s e h = refl
 refuse_claim false s e h = absurd (cc)
 
-pub step-skipped : (s : State) (line : List ℕ) (e : CommandError) → s.closed ≡ false → s.block ≡ NoBlock → length line ≤ 65536 → asked_of s line ≡ Err e → begins_claim line ≡ true
+pub step-skipped : (s : State) (line : List ℕ) (e : CommandError) → s.closed ≡ false → s.block ≡ NoBlock → length line ≤ 65536 → asked_of s line ≡ Err e → begins_block s.form line ≡ true
     → Step s line [] (refused (command_text e) s)
 step-skipped s line e going out short is claim =
-    step-command s (refused (command_text e) s) line Nothing going out (sym (command-short s line (Err e) short is ∙ refuse_claim (begins_claim line) s e claim))
+    step-command s (refused (command_text e) s) line Nothing going out
+    (commands-short s (refused (command_text e) s) line Nothing (Err e) short is (sym (refuse_claim (begins_block s.form line) s e claim)))
 
 refuse_other : (b : Bool) (s : State) (e : CommandError) → b ≡ false
     → (if b then tell Nothing (record s { block = Refused (command_text e) }) else tell (RefusedLine (command_text e)) s) ≡ tell (RefusedLine (command_text e)) s
 refuse_other false s e h = refl
 refuse_other true s e h = absurd (cc)
 
-pub step-refused : (s new : State) (line : List ℕ) (reply : Reply) (e : CommandError) → s.closed ≡ false → s.block ≡ NoBlock → length line ≤ 65536 → asked_of s line ≡ Err e → begins_claim line ≡ false
+pub step-refused : (s new : State) (line : List ℕ) (reply : Reply) (e : CommandError) → s.closed ≡ false → s.block ≡ NoBlock → length line ≤ 65536 → asked_of s line ≡ Err e → begins_block s.form line ≡ false
     → (reply, new) ≡ tell (RefusedLine (command_text e)) s → Step s line (text_of reply) new
 step-refused s new line reply e going out short is other told =
-    step-command s new line reply going out (told ∙ sym (command-short s line (Err e) short is ∙ refuse_other (begins_claim line) s e other))
+    step-command s new line reply going out (commands-short s new line reply (Err e) short is (told ∙ sym (refuse_other (begins_block s.form line) s e other)))
 
 -- a line before a turn
 pub turn-after : (taken : Taken) (first old new : Reader) (s mid : State) (was now now' : Option (List ℕ)) (line : List ℕ) → ReadsLine first old was now line → Step s line [] mid

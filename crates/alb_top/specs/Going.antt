@@ -1,5 +1,5 @@
 -- A run between two turns, and what one turn does.
-use Rattle.std.specs.Prelude.{◌≡◌, ℕ, ◌+◌, ◌<◌, ◌≤◌, ◌^◌, false, List, [], length, Option, Some}
+use Rattle.std.specs.Prelude.{◌≡◌, ℕ, ◌+◌, ◌<◌, ◌≤◌, ◌^◌, false, List, [], length, Option, Some, None}
 use Rattle.std.specs.Io.KnownBytes.{Consumes, Appends}
 use Rattle.alb_io.specs.Reader.{Reader, Reads}
 use Rattle.alb_io.specs.Reading.{Reading}
@@ -8,6 +8,7 @@ use Rattle.alb_io.specs.declared.step.LineStep.TheVariants as step
 use Rattle.alb_io.specs.declared.status.Status.{Status}
 use Rattle.alb_evidence.specs.Reads.{ReadsLine, ReadsLines}
 use Rattle.alb_poly.specs.Poly.{Poly}
+use Rattle.alb_script.specs.declared.form.Form.{Form}
 use Rattle.alb_top.specs.Runs.{Run}
 use Rattle.alb_top.specs.Script.{State, Reply, Claimed, Refused, start, Step, EndsBlock, text_of}
 use Rattle.alb_top.specs.View.{answer, state, IsScript, IsAnswer, AsksFor}
@@ -17,13 +18,13 @@ use Rattle.alb_top.specs.declared.turn.Taken.{Taken}
 use Rattle.alb_top.specs.declared.turn.Taken.TheVariants as took
 
 -- the lines so far are answered
-pub record Going (reader : Reader) (script : State) (first now before after : Option (List ℕ)) : Type 0 where
+pub record Going (form : Form) (reader : Reader) (script : State) (first now before after : Option (List ℕ)) : Type 0 where
   pub taken : List ℕ
   pub lines : List (List ℕ)
   pub text : List ℕ
   pub reading : Reading taken lines reader first now
   pub written : Appends before after text
-  pub run : Run Step start lines text script
+  pub run : Run Step (start form) lines text script
   pub room : reader.room + length taken ≡ 2 ^ 40
 
 -- lines were read and answered, and the last of them by this
@@ -86,10 +87,20 @@ claimed f s = record s { block = Claimed f [] }
 abbrev pub refused : List ℕ → State → State
 refused text s = record s { block = Refused text }
 
--- what a run did: the bytes that it took, the text that it appended, and what the text is to the input
-pub record Outcome (status : Status) (first now before after : Option (List ℕ)) : Type 0 where
+-- what a run of a script of this form did: the bytes that it took, the text that it appended, and what the text is to the input
+pub record Outcome (form : Form) (status : Status) (first now before after : Option (List ℕ)) : Type 0 where
   pub taken : List ℕ
   pub text : List ℕ
   pub consumed : Consumes first now taken
   pub written : Appends before after text
-  pub writes : (input : List ℕ) → first ≡ Some input → Writes status input taken text
+  pub writes : (input : List ℕ) → first ≡ Some input → Writes form status input taken text
+
+-- nothing was taken and nothing appended
+pub record IsIdle (first now before after : Option (List ℕ)) : Type 0 where
+  pub consumed : Consumes first now []
+  pub written : Appends before after []
+
+-- what a run did, by the form that the words name
+abbrev pub Does : Option Form → Status → Option (List ℕ) → Option (List ℕ) → Option (List ℕ) → Option (List ℕ) → Type 0
+Does (Some form) status first now before after = Outcome form status first now before after
+Does None status first now before after = IsIdle first now before after

@@ -1,53 +1,54 @@
 -- What a run did with the bytes that it took, by its status.
 use Rattle.std.specs.Prelude.{◌≡◌, ◌⊎◌, ℕ, ◌^◌, Bool, true, false, List, [], ◌++◌, length}
 use Rattle.alb_io.specs.Lines.{lines_of, whole_lines}
+use Rattle.alb_script.specs.declared.form.Form.{Form}
 use Rattle.alb_top.specs.Runs.{Run, Answers}
 use Rattle.alb_top.specs.Script.{State, start, Step, Finish}
 use Rattle.alb_io.specs.declared.status.Status.{Status}
 use Rattle.alb_io.specs.declared.status.Status.TheVariants as status
 
 -- the text is the transcript of the input, and the script is clean or not
-pub record IsTranscript (input text : List ℕ) (clean : Bool) : Type 0 where
+pub record IsTranscript (form : Form) (input text : List ℕ) (clean : Bool) : Type 0 where
   pub last : State
-  pub answers : Answers Step Finish start (lines_of input) text last
+  pub answers : Answers Step Finish (start form) (lines_of input) text last
   pub judged : last.clean ≡ clean
 
 -- the text answers the whole lines of the bytes that were taken, and the script goes on
-pub record AnswersSoFar (taken text : List ℕ) : Type 0 where
+pub record AnswersSoFar (form : Form) (taken text : List ℕ) : Type 0 where
   pub last : State
-  pub run : Run Step start (whole_lines taken) text last
+  pub run : Run Step (start form) (whole_lines taken) text last
   pub runs : last.closed ≡ false
 
 -- the text is a front of the transcript of the input
-pub record IsFront (input text : List ℕ) : Type 0 where
+pub record IsFront (form : Form) (input text : List ℕ) : Type 0 where
   pub rest : List ℕ
   pub clean : Bool
-  pub transcript : IsTranscript input (text ++ rest) clean
+  pub transcript : IsTranscript form input (text ++ rest) clean
 
 -- a line of the input ended the script, and the text answers the lines up to it
-pub record EndsInside (input text : List ℕ) : Type 0 where
+pub record EndsInside (form : Form) (input text : List ℕ) : Type 0 where
   pub lines : List (List ℕ)
   pub more : List (List ℕ)
   pub last : State
   pub cut : lines_of input ≡ lines ++ more
-  pub run : Run Step start lines text last
+  pub run : Run Step (start form) lines text last
   pub closed : last.closed ≡ true
 
 -- the input was read to its end, or to the line that ends the script
-abbrev pub IsRead : List ℕ → List ℕ → List ℕ → Type 0
-IsRead input taken text = (input ≡ taken) ⊎ EndsInside input text
+abbrev pub IsRead : Form → List ℕ → List ℕ → List ℕ → Type 0
+IsRead form input taken text = (input ≡ taken) ⊎ EndsInside form input text
 
--- by the status, what the text is to the input, of which these bytes were taken
-abbrev pub Writes : Status → List ℕ → List ℕ → List ℕ → Type 0
-Writes status.Done input taken text = IsTranscript input text true × IsRead input taken text
-Writes status.Refused input taken text = IsTranscript input text false × IsRead input taken text
-Writes status.ReadFault input taken text = AnswersSoFar taken text
-Writes status.InputLimit input taken text = AnswersSoFar taken text × (length taken ≡ 2 ^ 40)
-Writes status.WriteFault input taken text = IsFront input text
-Writes status.NoMemory input taken text = IsFront input text
-Writes status.Usage input taken text = (taken ≡ []) × (text ≡ [])
-Writes status.OpenFault input taken text = ⊥
-Writes status.ReportFault input taken text = ⊥
+-- by the status, what the text is to the input, of which these bytes were taken, for a script of this form
+abbrev pub Writes : Form → Status → List ℕ → List ℕ → List ℕ → Type 0
+Writes form status.Done input taken text = IsTranscript form input text true × IsRead form input taken text
+Writes form status.Refused input taken text = IsTranscript form input text false × IsRead form input taken text
+Writes form status.ReadFault input taken text = AnswersSoFar form taken text
+Writes form status.InputLimit input taken text = AnswersSoFar form taken text × (length taken ≡ 2 ^ 40)
+Writes form status.WriteFault input taken text = IsFront form input text
+Writes form status.NoMemory input taken text = IsFront form input text
+Writes form status.Usage input taken text = ⊥
+Writes form status.OpenFault input taken text = ⊥
+Writes form status.ReportFault input taken text = ⊥
 
 abbrev pub status_of : Bool → Status
 status_of true = status.Done

@@ -1,4 +1,4 @@
--- The script of a check: what has been said so far, and what each line is answered.
+-- The scripts of a check and of a batch: what has been said so far, and what each line is answered.
 use Rattle.std.specs.Prelude.{◌≡◌, ℕ, ◌+◌, Bool, true, false, ◌&&◌, List, [], ◌∷◌, ◌++◌, length, map, drop, sum, Option, None, Some, Result, Ok, Err, nat_eq, nat_lt, if◌then◌else◌, decimal, codes}
 use Rattle.std.specs.List.{starts_with}
 use Rattle.alb_lex.specs.Lexing.{is_blank}
@@ -10,13 +10,20 @@ use Rattle.alb_linear.specs.Identity as identity
 use Rattle.alb_problem.specs.Generators.{letters, counts}
 use Rattle.alb_problem.specs.Builder.{Builder, linear_form}
 use Rattle.alb_problem.specs.Refusals as refusals
+use Rattle.alb_script.specs.Asked as asking
 use Rattle.alb_script.specs.Asked.{Asked, Field, Generators, Identity, Build, Claim, Quit, asked}
 use Rattle.alb_script.specs.Refusals.{line_of, command_text}
-use Rattle.alb_script.specs.declared.form.Form.TheVariants.{Check}
+use Rattle.alb_script.specs.declared.form.Form as scripts
+use Rattle.alb_script.specs.declared.form.Form.TheVariants as form
 use Rattle.alb_script.specs.declared.error.CommandError.{CommandError}
 use Rattle.alb_evidence.specs.Words.{ends_word, is_end}
 use Rattle.alb_evidence.specs.Block.{Evidence, Fault, evidence_of}
-use Rattle.alb_top.specs.Verdict.{Verdict, IsVerdict, is_accepted, verdict_text, IsJustified}
+use Rattle.alb_table.specs.Table.{Table, IsTable}
+use Rattle.alb_table.specs.RightTable.{IsRightTable}
+use Rattle.alb_table.specs.End.{End, IsEnd}
+use Rattle.alb_query.specs.Answer.{Answer, IsAnswer}
+use Rattle.alb_answer.specs.Answers.{answer_line, dimension_lines, product_lines, built_line}
+use Rattle.alb_top.specs.Verdict.{Verdict, IsVerdict, is_accepted, verdict_text, IsJustified, IsMeant}
 
 -- What the lines of an open block stand behind: nothing, where no block is open; a claim, with the lines so far; or a claim
 -- whose line is refused, with the refusal.
@@ -25,17 +32,28 @@ pub data Open : Type 0 where
   Claimed : Poly → List (List ℕ) → Open
   Refused : List ℕ → Open
 
--- How far a script has come: the field, the generators and the identities that were accepted; whether `build` was; the open
--- block; whether the script has ended, by `quit`; and whether no line was refused and no evidence rejected.
+-- How far a script has come: its form; the field, the generators and the identities that were accepted; whether `build` was;
+-- the table that it gave, in a batch; the open block; whether the script has ended, by `quit`; and whether no line was refused
+-- and no evidence rejected.
 pub record State : Type 0 where
+  pub form : scripts.Form
   pub problem : Builder
   pub built : Bool
+  pub table : Option Table
   pub block : Open
   pub closed : Bool
   pub clean : Bool
 
-abbrev pub start : State
-start = record { problem = record { field = 251; letters = []; counts = []; identities = [] }; built = false; block = NoBlock; closed = false; clean = true }
+abbrev pub start : scripts.Form → State
+start f = record {
+  form = f;
+  problem = record { field = 251; letters = []; counts = []; identities = [] };
+  built = false;
+  table = None;
+  block = NoBlock;
+  closed = false;
+  clean = true;
+}
 
 -- the linearized identities
 abbrev pub forms_of : Builder → List Form
@@ -48,6 +66,7 @@ pub data Reply : Type 0 where
   Accepted : Reply
   NumberedIdentity : ℕ → Reply
   Ready : Reply
+  Told : List ℕ → Reply
   RefusedLine : List ℕ → Reply
   Judged : Verdict → Reply
 
@@ -56,6 +75,7 @@ text_of Nothing = []
 text_of Accepted = codes "ok\n"
 text_of (NumberedIdentity k) = line_of (codes "identity ") (decimal k)
 text_of Ready = codes "ready\n"
+text_of (Told text) = text
 text_of (RefusedLine text) = text
 text_of (Judged v) = verdict_text v
 
@@ -107,19 +127,64 @@ stated b other = (Nothing, b)
 abbrev pub with_problem : State → Reply × Builder → Reply × State
 with_problem s answer = tell answer.0 (record s { problem = answer.1 })
 
--- `build`
-abbrev pub built_unless : Option refusals.Refusal → State → Reply × State
-built_unless None s = tell Ready (record s { built = true })
-built_unless (Some r) s = tell (RefusedLine (stated_text r)) s
-
--- what a command is answered, and what the script has come to behind it
+-- what a command is answered that is a statement, a claim or the end, and what the script has come to behind it
 abbrev pub obey : State → Asked → Reply × State
-obey s Build = built_unless (refusals.finish_refusal s.problem) s
 obey s (Claim f) = tell Nothing (record s { block = Claimed f [] })
 obey s Quit = tell Nothing (record s { closed = true })
 obey s statement = with_problem s (stated s.problem statement)
 
--- the letters of the generators, by which claims are read
+-- ---- tables and questions
+
+-- the table is right for the problem
+pub record IsTableOf (b : Builder) (t : Table) : Type 0 where
+  pub field : t.p ≡ b.field
+  pub goal : t.target ≡ b.counts
+  pub table : IsTable t
+  pub right : IsRightTable (forms_of b) t
+
+-- the right table at which the building of an accepted problem ends, and how; the table stands in the script from here on
+pub record Builds (old : State) (reply : Reply) (new : State) : Type 0 where
+  pub table : Table
+  pub end : End
+  pub right : IsTableOf old.problem table
+  pub ends : IsEnd (forms_of old.problem) table end
+  pub told : (reply, new) ≡ tell (Told (built_line table.degree end)) (record old { built = true; table = Some table })
+
+-- `build` of an accepted problem: a check needs no table
+abbrev pub BuildsBy : scripts.Form → State → Reply → State → Type 0
+BuildsBy form.Check old reply new = (reply, new) ≡ tell Ready (record old { built = true })
+BuildsBy other old reply new = Builds old reply new
+
+abbrev pub BuildsUnless : Option refusals.Refusal → State → Reply → State → Type 0
+BuildsUnless None old reply new = BuildsBy old.form old reply new
+BuildsUnless (Some r) old reply new = (reply, new) ≡ tell (RefusedLine (stated_text r)) old
+
+-- a question about `g` is answered by the table `t`
+pub record Answers (old : State) (t : Table) (g : Poly) (reply : Reply) (new : State) : Type 0 where
+  pub answer : Answer
+  pub is : IsAnswer t.p (forms_of old.problem) t.target t.degree g answer
+  pub told : (reply, new) ≡ tell (Told (answer_line t.p old.problem.letters t.degree answer)) old
+  pub meant : IsMeant t.p old.problem.identities g answer
+
+-- a question to a table
+abbrev pub AsksTable : Option Table → State → Asked → Reply → State → Type 0
+AsksTable (Some t) old (asking.Polynomial g) reply new = Answers old t g reply new
+AsksTable (Some t) old asking.Dimensions reply new = (reply, new) ≡ tell (Told (dimension_lines t)) old
+AsksTable (Some t) old asking.Table reply new = (reply, new) ≡ tell (Told (product_lines old.problem.letters t)) old
+AsksTable (Some t) old other reply new = ⊥
+AsksTable None old a reply new = ⊥
+
+-- what a command is answered, and what the script has come to behind it
+abbrev pub Obeys : State → Asked → Reply → State → Type 0
+Obeys old Build reply new = BuildsUnless (refusals.finish_refusal old.problem) old reply new
+Obeys old (asking.Polynomial g) reply new = AsksTable old.table old (asking.Polynomial g) reply new
+Obeys old asking.Dimensions reply new = AsksTable old.table old asking.Dimensions reply new
+Obeys old asking.Table reply new = AsksTable old.table old asking.Table reply new
+Obeys old other reply new = (reply, new) ≡ obey old other
+
+-- ---- lines
+
+-- the letters of the generators, by which claims and questions are read
 abbrev pub letters_of : State → List ℕ
 letters_of s = if s.built then s.problem.letters else []
 
@@ -132,23 +197,27 @@ begins_claim [] = false
 begins_claim (b ∷ bs) =
     if is_blank b then begins_claim bs else starts_with nat_eq (b ∷ bs) (codes "claim") && ends_word (drop 5 (b ∷ bs))
 
+-- a line of a check that begins so is followed by a block
+abbrev pub begins_block : scripts.Form → List ℕ → Bool
+begins_block form.Check line = begins_claim line
+begins_block other line = false
+
 -- a line that is no command here; the block of a refused claim comes before its refusal
 abbrev pub refuse_line : State → List ℕ → CommandError → Reply × State
-refuse_line s line e = if begins_claim line then tell Nothing (record s { block = Refused (command_text e) }) else tell (RefusedLine (command_text e)) s
+refuse_line s line e = if begins_block s.form line then tell Nothing (record s { block = Refused (command_text e) }) else tell (RefusedLine (command_text e)) s
 
-abbrev pub obey_line : State → List ℕ → Result Asked CommandError → Reply × State
-obey_line s line (Ok a) = obey s a
-obey_line s line (Err e) = refuse_line s line e
+abbrev pub ObeysLine : State → List ℕ → Result Asked CommandError → Reply → State → Type 0
+ObeysLine old line (Ok a) reply new = Obeys old a reply new
+ObeysLine old line (Err e) reply new = (reply, new) ≡ refuse_line old line e
 
 -- what a line asks for, or its first fault
 abbrev pub asked_of : State → List ℕ → Result Asked CommandError
-asked_of s line = asked Check s.built (total_of s) s.problem.field (letters_of s) line
+asked_of s line = asked s.form s.built (total_of s) s.problem.field (letters_of s) line
 
--- a line outside all blocks
-abbrev pub command : State → List ℕ → Reply × State
-command s line =
-    if nat_lt 65536 (length line) then tell (RefusedLine (codes "refused 84\n")) s
-    else obey_line s line (asked_of s line)
+-- a line outside all blocks, by whether it is too long
+abbrev pub Commands : Bool → State → List ℕ → Reply → State → Type 0
+Commands true old line reply new = (reply, new) ≡ tell (RefusedLine (codes "refused 84\n")) old
+Commands false old line reply new = ObeysLine old line (asked_of old line) reply new
 
 -- ---- blocks
 
@@ -183,7 +252,7 @@ OfBlock false old line reply new = (reply ≡ Nothing) × (new ≡ inside old.bl
 -- ---- the transcript
 
 abbrev pub AnswersIn : Open → State → List ℕ → Reply → State → Type 0
-AnswersIn NoBlock old line reply new = (reply, new) ≡ command old line
+AnswersIn NoBlock old line reply new = Commands (nat_lt 65536 (length line)) old line reply new
 AnswersIn other old line reply new = OfBlock (is_end line) old line reply new
 
 -- what a line is answered; behind the end of the script it is not read

@@ -7,7 +7,9 @@ use Rattle.alb_poly.specs.Textbook.{IsTextConsequence}
 use Rattle.alb_deriv.specs.Derivation as derivation
 use Rattle.alb_deriv.specs.Derivation.{claim_fault}
 use Rattle.alb_check.specs.Verdict as tables
-use Rattle.alb_evidence.specs.Block.{Evidence, Zero, NotZero, Fault, BadLine, BadNumber}
+use Rattle.alb_evidence.specs.Block as block
+use Rattle.alb_evidence.specs.Block.{Evidence, Fault, BadLine, BadNumber}
+use Rattle.alb_query.specs.Answer.{Answer, Zero, NotZero, NotBuilt, OutOfType}
 
 -- the claim is zero, or it is not, or the evidence is rejected, with this line
 pub data Verdict : Type 0 where
@@ -63,8 +65,8 @@ of_table tables.ValueZero = Rejected (codes "rejected 62\n")
 -- the verdict on the evidence for a claim `g`, over `p` elements, within the target, and with the linearized identities `fs`
 abbrev pub IsVerdict : ℕ → List ℕ → List Form → Poly → Result Evidence Fault → Verdict → Type 0
 IsVerdict p target fs g (Err fault) v = v ≡ Rejected (block_text fault)
-IsVerdict p target fs g (Ok (Zero lines)) v = v ≡ derived (claim_fault p target fs g lines)
-IsVerdict p target fs g (Ok (NotZero t)) v = (w : tables.Verdict) × tables.IsVerdict p target fs t g w × (v ≡ of_table w)
+IsVerdict p target fs g (Ok (block.Zero lines)) v = v ≡ derived (claim_fault p target fs g lines)
+IsVerdict p target fs g (Ok (block.NotZero t)) v = (w : tables.Verdict) × tables.IsVerdict p target fs t g w × (v ≡ of_table w)
 
 -- `accepted zero` stands only where the claim is a consequence of the identities in the textbook's sense: it equals a sum of
 -- multiples of values of the identities, at any polynomials, in contexts; `accepted not zero` only where it is none
@@ -72,3 +74,10 @@ abbrev pub IsJustified : ℕ → List Poly → Poly → Verdict → Type 0
 IsJustified p identities g AcceptedZero = IsTextConsequence p identities g
 IsJustified p identities g AcceptedNotZero = IsTextConsequence p identities g → ⊥
 IsJustified p identities g (Rejected text) = Unit {0}
+
+-- an answer means what it says of the identities, in the textbook's sense
+abbrev pub IsMeant : ℕ → List Poly → Poly → Answer → Type 0
+IsMeant p identities g Zero = IsTextConsequence p identities g
+IsMeant p identities g (NotZero f) = IsTextConsequence p identities g → ⊥
+IsMeant p identities g (NotBuilt n) = Unit {0}
+IsMeant p identities g (OutOfType m) = Unit {0}

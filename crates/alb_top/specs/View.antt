@@ -1,5 +1,6 @@
 -- What contracts see of scripts and answers.
-use Rattle.std.specs.Prelude.{◌≡◌, ℕ, Bool, true, false, List, length, codes, Result, Ok, Err}
+use Rattle.std.specs.Prelude.{◌≡◌, ℕ, ◌≤◌, Bool, true, false, List, length, codes, Option, None, Some, Result, Ok, Err}
+use Rattle.std.specs.Arc.{arc_value}
 use Rattle.alb_problem.specs.Builder.{Builder}
 use Rattle.alb_problem.specs.Problem.{problem, IsAccepted}
 use Rattle.alb_problem.specs.declared.problem.Problem.{Problem}
@@ -14,7 +15,12 @@ use Rattle.alb_evidence.specs.Views.{evidence}
 use Rattle.alb_evidence.specs.declared.evidence.Evidence.{Evidence}
 use Rattle.alb_evidence.specs.declared.error.EvidenceError.{EvidenceError}
 use Rattle.alb_evidence.specs.declared.error.EvidenceError.TheVariants as given
+use Rattle.alb_script.specs.Asked as asking
 use Rattle.alb_script.specs.Asked.{Asked, Blank, Field, Generators, Identity, Build, Claim, Quit, view, HasRead, IsRead}
+use Rattle.alb_script.specs.Words.{belongs}
+use Rattle.alb_script.specs.declared.word.Word.TheVariants as word
+use Rattle.alb_script.specs.declared.form.Form as scripts
+use Rattle.alb_script.specs.declared.form.Form.TheVariants as form
 use Rattle.alb_script.specs.declared.command.Command.{Command}
 use Rattle.alb_script.specs.declared.command.Command.TheVariants as commands
 use Rattle.alb_script.specs.declared.error.CommandError.{CommandError}
@@ -25,7 +31,15 @@ use Rattle.alb_script.specs.Refusals.{refusal_text, is_memory, IsOverAlphabet}
 use Rattle.alb_top.specs.Verdict as verdicts
 use Rattle.alb_top.specs.Verdict.{numbered, failure_text}
 use Rattle.alb_top.specs.Script as script
-use Rattle.alb_top.specs.Script.{State, NoBlock, letters_of, asked_of, begins_claim}
+use Rattle.alb_table.specs.Table.{Table, IsTable}
+use Rattle.alb_table.specs.RightTable.{IsRightTable}
+use Rattle.alb_table.specs.End.{end_of, IsEnd}
+use Rattle.alb_table.specs.declared.end.BuildEnd.{BuildEnd}
+use Rattle.alb_query.specs.Answer as query
+use Rattle.alb_query.specs.Views.{answer_of}
+use Rattle.alb_query.specs.Answer.{IsOver}
+use Rattle.alb_answer.specs.Answers.{answer_line, dimension_lines, product_lines, built_line}
+use Rattle.alb_top.specs.Script.{State, NoBlock, letters_of, asked_of, begins_block}
 use Rattle.alb_top.specs.declared.reply.Reply.{Reply}
 use Rattle.alb_top.specs.declared.reply.Reply.TheVariants as reply
 use Rattle.alb_top.specs.declared.reply.Verdict.{Verdict}
@@ -37,6 +51,7 @@ use Rattle.alb_top.specs.declared.judge.Judged.{Judged}
 use Rattle.alb_top.specs.declared.judge.Judged.TheVariants as judged
 use Rattle.alb_top.specs.declared.script.Asks.{Asks}
 use Rattle.alb_top.specs.declared.script.Asks.TheVariants as asks
+use Rattle.alb_top.specs.declared.reply.Topic.{Topic}
 use Rattle.alb_top.specs.declared.script.Script.{Script}
 use Rattle.alb_top.specs.declared.script.Stage.{Stage}
 use Rattle.alb_top.specs.declared.script.Stage.TheVariants as stage
@@ -65,6 +80,10 @@ answer reply.Nothing = script.Nothing
 answer reply.Ok = script.Accepted
 answer (reply.Identity k) = script.NumberedIdentity k
 answer reply.Ready = script.Ready
+answer (reply.Built d e) = script.Told (built_line d (end_of e))
+answer (reply.Answer t a) = script.Told (answer_line (arc_value t).tables.p (arc_value t).problem.letters (arc_value t).tables.degree (answer_of a))
+answer (reply.Dimensions t) = script.Told (dimension_lines (arc_value t).tables)
+answer (reply.Products t) = script.Told (product_lines (arc_value t).problem.letters (arc_value t).tables)
 answer (reply.Refused r) = script.RefusedLine (refusal_text r)
 answer (reply.Judged v) = script.Judged (judgement v)
 
@@ -75,6 +94,8 @@ pub record CanBeWritten (r : Refusal) : Type 0 where
 
 abbrev pub IsAnswer : Reply → Type 0
 IsAnswer (reply.Refused r) = CanBeWritten r
+IsAnswer (reply.Answer t a) = IsOver (arc_value t).tables.p (length (arc_value t).problem.letters) (answer_of a)
+IsAnswer (reply.Products t) = length (arc_value t).tables.target ≤ length (arc_value t).problem.letters
 IsAnswer other = Unit {0}
 
 -- the answer to an error of the problem
@@ -115,22 +136,76 @@ Judges judged.NoMemory q g (Err e) = e ≡ given.NoMemory
 -- what is said of the problem
 abbrev pub said : Stage → Builder
 said (stage.Stating b) = b
-said (stage.Asking q) = problem q
+said (stage.Claiming q) = problem q
+said (stage.Asking t) = problem (arc_value t).problem
 
-abbrev pub is_asking : Stage → Bool
-is_asking (stage.Stating b) = false
-is_asking (stage.Asking q) = true
+abbrev pub is_built : Stage → Bool
+is_built (stage.Stating b) = false
+is_built (stage.Claiming q) = true
+is_built (stage.Asking t) = true
+
+abbrev pub table_of : Stage → Option Table
+table_of (stage.Asking t) = Some (arc_value t).tables
+table_of other = None
 
 -- between two turns no block is open
 abbrev pub state : Script → State
-state s = record { problem = said s.stage; built = is_asking s.stage; block = NoBlock; closed = s.closed; clean = s.clean }
+state s = record {
+  form = s.form;
+  problem = said s.stage;
+  built = is_built s.stage;
+  table = table_of s.stage;
+  block = NoBlock;
+  closed = s.closed;
+  clean = s.clean;
+}
 
-abbrev pub IsStage : Stage → Type 0
-IsStage (stage.Stating b) = Unit {0}
-IsStage (stage.Asking q) = IsAccepted q
+-- the table of an accepted problem is right for its rules
+pub record IsTopic (t : Topic) : Type 0 where
+  pub accepted : IsAccepted t.problem
+  pub field : t.tables.p ≡ t.problem.rules.field
+  pub goal : t.tables.target ≡ t.problem.rules.target
+  pub table : IsTable t.tables
+  pub right : IsRightTable (forms t.problem.rules) t.tables
 
-abbrev pub IsScript : Script → Type 0
-IsScript s = IsStage s.stage
+-- a batch has its table behind `build`, and no other form has one
+abbrev pub IsStage : scripts.Form → Stage → Type 0
+IsStage f (stage.Stating b) = Unit {0}
+IsStage f (stage.Claiming q) = (f ≡ form.Check) × IsAccepted q
+IsStage f (stage.Asking t) = (f ≡ form.Batch) × IsTopic (arc_value t)
+
+-- the forms of scripts that the program runs
+abbrev pub IsProgram : scripts.Form → Type 0
+IsProgram form.Session = ⊥
+IsProgram other = Unit {0}
+
+pub record IsScript (s : Script) : Type 0 where
+  pub program : IsProgram s.form
+  pub stage : IsStage s.form s.stage
+
+-- ---- behind the end of a problem
+
+-- the table of a problem was built, and its building ended so
+pub record BuildsTable (q : Problem) (r : Reply) (t : Topic) : Type 0 where
+  pub topic : IsTopic t
+  pub problem_is : t.problem ≡ q
+  pub end : BuildEnd
+  pub told : r ≡ reply.Built t.tables.degree end
+  pub ends : IsEnd (forms q.rules) t.tables (end_of end)
+
+-- what stands behind the end of a problem, and the answer
+abbrev pub Begins : scripts.Form → Problem → Reply → Stage → Type 0
+Begins form.Batch q r (stage.Asking t) = BuildsTable q r (arc_value t)
+Begins form.Check q r (stage.Claiming c) = (c ≡ q) × (r ≡ reply.Ready)
+Begins other q r another = ⊥
+
+-- a question is answered by its topic
+abbrev pub RepliesTo : Topic → Asked → Reply → Type 0
+RepliesTo t (asking.Polynomial g) (reply.Answer s a) =
+    (arc_value s ≡ t) × query.IsAnswer t.tables.p (forms t.problem.rules) t.tables.target t.tables.degree g (answer_of a)
+RepliesTo t asking.Dimensions (reply.Dimensions s) = arc_value s ≡ t
+RepliesTo t asking.Table (reply.Products s) = arc_value s ≡ t
+RepliesTo t other r = ⊥
 
 -- ---- what may be asked for
 
@@ -141,16 +216,37 @@ IsStatement (Generators ts end) = Unit {0}
 IsStatement (Identity f) = Unit {0}
 IsStatement other = ⊥
 
--- statements and `build` stand before `build`, and claims behind it
-abbrev pub IsTimely : Bool → Asked → Type 0
-IsTimely built Blank = Unit {0}
-IsTimely built (Field p) = built ≡ false
-IsTimely built (Generators ts end) = built ≡ false
-IsTimely built (Identity f) = built ≡ false
-IsTimely built Build = built ≡ false
-IsTimely built (Claim f) = built ≡ true
-IsTimely built Quit = Unit {0}
-IsTimely built other = ⊥
+-- a claim or a question is one of the form
+abbrev pub IsOfForm : scripts.Form → Asked → Type 0
+IsOfForm f (Claim g) = belongs f word.Claim ≡ true
+IsOfForm f (asking.Polynomial g) = belongs f word.Polynomial ≡ true
+IsOfForm f (asking.Prove g) = belongs f word.Prove ≡ true
+IsOfForm f asking.Dimensions = belongs f word.Dimensions ≡ true
+IsOfForm f asking.Table = belongs f word.Table ≡ true
+IsOfForm f (asking.Await n) = belongs f word.Await ≡ true
+IsOfForm f other = Unit {0}
+
+-- statements and `build` stand before `build`, and claims and questions behind it
+abbrev pub StandsBy : Bool → Asked → Type 0
+StandsBy built Blank = Unit {0}
+StandsBy built (Field p) = built ≡ false
+StandsBy built (Generators ts end) = built ≡ false
+StandsBy built (Identity f) = built ≡ false
+StandsBy built Build = built ≡ false
+StandsBy built Quit = Unit {0}
+StandsBy built other = built ≡ true
+
+-- a command that may stand here
+pub record IsTimely (f : scripts.Form) (built : Bool) (a : Asked) : Type 0 where
+  pub of_form : IsOfForm f a
+  pub stands : StandsBy built a
+
+-- a question
+abbrev pub IsQuestion : Asked → Type 0
+IsQuestion (asking.Polynomial f) = Unit {0}
+IsQuestion asking.Dimensions = Unit {0}
+IsQuestion asking.Table = Unit {0}
+IsQuestion other = ⊥
 
 -- a command other than a claim
 abbrev pub IsOrder : Asked → Type 0
@@ -161,13 +257,13 @@ IsOrder other = Unit {0}
 abbrev pub AsksFor : Asks → State → List ℕ → Type 0
 AsksFor (asks.Command c) s line = asked_of s line ≡ Ok (view c)
 AsksFor (asks.Claim f) s line = asked_of s line ≡ Ok (Claim f)
-AsksFor (asks.Refusal e) s line = (asked_of s line ≡ Err e) × (begins_claim line ≡ false)
-AsksFor (asks.RefusedClaim e) s line = (asked_of s line ≡ Err e) × (begins_claim line ≡ true)
+AsksFor (asks.Refusal e) s line = (asked_of s line ≡ Err e) × (begins_block s.form line ≡ false)
+AsksFor (asks.RefusedClaim e) s line = (asked_of s line ≡ Err e) × (begins_block s.form line ≡ true)
 
 -- what is asked for may stand here, and is over the field and the letters; a refusal can be written
 abbrev pub MayBeAsked : Asks → State → Type 0
-MayBeAsked (asks.Command c) s = IsOrder (view c) × IsTimely s.built (view c) × HasRead s.problem.field (length (letters_of s)) c
-MayBeAsked (asks.Claim f) s = (s.built ≡ true) × IsRead s.problem.field (length (letters_of s)) f
+MayBeAsked (asks.Command c) s = IsOrder (view c) × IsTimely s.form s.built (view c) × HasRead s.problem.field (length (letters_of s)) c
+MayBeAsked (asks.Claim f) s = (s.form ≡ form.Check) × (s.built ≡ true) × IsRead s.problem.field (length (letters_of s)) f
 MayBeAsked (asks.Refusal e) s = CanBeWritten (refusal.Command e)
 MayBeAsked (asks.RefusedClaim e) s = CanBeWritten (refusal.Command e)
 

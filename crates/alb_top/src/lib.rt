@@ -2,6 +2,7 @@
 #![tactic(auto)]
 
 mod judge;
+mod question;
 mod reply;
 mod run;
 mod script;

@@ -3,7 +3,11 @@ ghost use Rattle.alb_top.specs.Verdict.{is_accepted};
 ghost use Rattle.alb_top.specs.Script.{is_clean};
 ghost use Rattle.alb_top.specs.View.{judgement, answer};
 
+use alb_problem::Problem;
+use alb_query::Reply as Answer;
 use alb_script::Refusal;
+use alb_table::{BuildEnd, Tables};
+use std::sync::Arc;
 
 /// Why the evidence for a claim is rejected. Lines are counted from 1: for the first two in the block, for the others in
 /// the derivation.
@@ -39,6 +43,13 @@ pub enum Verdict {
     Rejected(Rejection),
 }
 
+/// An accepted problem with its table.
+#[derive(Drop)]
+pub struct Topic {
+    pub problem: Problem,
+    pub tables: Tables,
+}
+
 /// What is answered.
 #[derive(Drop)]
 pub enum Reply {
@@ -47,6 +58,14 @@ pub enum Reply {
     /// An identity was accepted, which has this number, counted from 1.
     Identity(u32),
     Ready,
+    /// The table was built to this degree, and its building ended so.
+    Built(u32, BuildEnd),
+    /// The answer to a question about a polynomial.
+    Answer(Arc<Topic>, Answer),
+    /// The dimensions of the table.
+    Dimensions(Arc<Topic>),
+    /// The products of the table.
+    Products(Arc<Topic>),
     Refused(Refusal),
     Judged(Verdict),
 }

@@ -1,29 +1,32 @@
-ghost use Rattle.std.specs.Prelude.{◌≡◌, ◌≢◌, ◌↔◌, ◌≤◌, ◌^◌, [], true, false, None, MatchResult};
+ghost use Rattle.std.specs.Prelude.{◌≡◌, ◌≢◌, ◌↔◌, ◌≤◌, ◌^◌, [], true, false, None, IfSome, MatchResult};
 ghost use Rattle.std.specs.Io.KnownBytes.{Appends};
 ghost use Rattle.alb_io.specs.Causes.{HasCause, Rose};
-ghost use Rattle.alb_top.specs.Forms.{is_check_form};
-ghost use Rattle.alb_top.specs.Going.{Outcome};
+ghost use Rattle.alb_top.specs.Forms.{form_of};
+ghost use Rattle.alb_top.specs.Going.{Outcome, Does};
 ghost use Rattle.alb_top.specs.Outcome.{status_of};
 ghost use Rattle.alb_top.specs.Script.{start};
-ghost use Rattle.alb_top.specs.View.{state, IsScript};
+ghost use Rattle.alb_top.specs.View.{state, IsProgram, IsScript};
 
 use crate::script::Script;
 use crate::turn::{Taken, take_turn};
 use crate::write::write_reply;
 use alb_io::{Desk, LineReader, Sink, Source, Status};
+use alb_script::Form;
 use std::alloc::Global;
 use std::thread::Threads;
 
 /// The most bytes of one input.
 const INPUT_LIMIT: u64 = 1 << 40;
 
-// Whether the words ask for a check.
-fn is_check(words: &[String]) -> bool
-    ensures { result ≡ is_check_form words.now }
+// The form of the script that the words name.
+fn form_of(words: &[String]) -> Option<Form>
+    ensures form { result ≡ form_of words.now }
+    ensures program { IfSome result (λ f. IsProgram f) }
 {
     match words {
-        [word] => word.as_str() == "check",
-        _ => false,
+        [word] if word.as_str() == "batch" => Some(Form::Batch),
+        [word] if word.as_str() == "check" => Some(Form::Check),
+        _ => None,
     }
 }
 
@@ -46,9 +49,9 @@ fn run_script<S: Source, K: Sink>(
     output: &mut K,
 ) -> Status
     requires fresh { reader.old ≡ record { held = []; room = 2 ^ 40; at_end = false; ended = false; line = None } }
-    requires start { state first ≡ start }
+    requires start { state first ≡ start (state first).form }
     requires script { IsScript first }
-    ensures outcome { Outcome result (S.left input.old) (S.left input.new) (K.taken output.old) (K.taken output.new) }
+    ensures outcome { Outcome (state first).form result (S.left input.old) (S.left input.new) (K.taken output.old) (K.taken output.new) }
     ensures read_fault { result ≡ Status.ReadFault → Rose (S.faults input.old) (S.faults input.new) }
     ensures write_fault { result ≡ Status.WriteFault → Rose (K.faults output.old) (K.faults output.new) }
     ensures sound { S.is_sound input.old → S.is_sound input.new × (result ≢ Status.ReadFault) }
@@ -86,8 +89,8 @@ pub fn run_albert<R: Threads, D: Desk, S: Source, K: Sink>(
     input: &mut S,
     output: &mut K,
 ) -> Status
-    ensures usage { (result ≡ Status.Usage) ↔ (is_check_form words.now ≡ false) }
-    ensures outcome { Outcome result (S.left input.old) (S.left input.new) (K.taken output.old) (K.taken output.new) }
+    ensures usage { (result ≡ Status.Usage) ↔ (form_of words.now ≡ None) }
+    ensures outcome { Does (form_of words.now) result (S.left input.old) (S.left input.new) (K.taken output.old) (K.taken output.new) }
     ensures read_fault { result ≡ Status.ReadFault → Rose (S.faults input.old) (S.faults input.new) }
     ensures write_fault { result ≡ Status.WriteFault → Rose (K.faults output.old) (K.faults output.new) }
     ensures sound { S.is_sound input.old → result ≢ Status.ReadFault }
@@ -97,10 +100,10 @@ pub fn run_albert<R: Threads, D: Desk, S: Source, K: Sink>(
 {
     let _rt = rt;
     let _desk = desk;
-    if !is_check(words) {
+    let Some(form) = form_of(words) else {
         return Status::Usage;
-    }
-    let script = Script::new(alloc);
+    };
+    let script = Script::new(alloc, form);
     let Ok(mut reader) = LineReader::open(alloc, INPUT_LIMIT) else {
         return Status::NoMemory;
     };

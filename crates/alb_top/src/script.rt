@@ -1,15 +1,16 @@
-ghost use Rattle.std.specs.Prelude.{◌≡◌, if◌then◌else◌, ◌≤◌, ◌<◌, IfOk, IfSome, IfNone, OnErr, MatchResult, IsTrue, true, false, List, ℕ, length, codes};
+ghost use Rattle.std.specs.Prelude.{◌≡◌, if◌then◌else◌, ◌≤◌, ◌<◌, IfOk, IfSome, IfNone, OnErr, MatchResult, IsTrue, true, false, List, ℕ, length, codes, sum};
 ghost use Rattle.alb_lex.specs.declared.token.Token.{Token};
 ghost use Rattle.alb_script.specs.Asked as asking;
 ghost use Rattle.alb_script.specs.Asked.{asked, view, Gives, HasRead, IsPlain, Build, Quit, IsRead};
 ghost use Rattle.alb_script.specs.Refusals.{refusal_text};
-ghost use Rattle.alb_script.specs.declared.form.Form.TheVariants.{Check};
-ghost use Rattle.alb_top.specs.Script.{start, stated, tell, obey, letters_of, total_of, RefusedLine, Nothing, Judged, begins_claim};
+ghost use Rattle.alb_top.specs.Script.{start, stated, tell, obey, Obeys, letters_of, total_of, RefusedLine, Nothing, Judged, begins_claim, begins_block};
 ghost use Rattle.alb_evidence.specs.Words.{ends_word};
 ghost use Rattle.alb_lex.specs.Lexing.{is_blank};
-ghost use Rattle.alb_top.specs.View.{answer, judgement, IsAnswer, IsStatement, IsTimely, IsOrder, AsksFor, MayBeAsked, CanBeWritten, of_problem, of_command, asks_of};
+ghost use Rattle.alb_top.specs.Sound.{IsSoundProblem};
+ghost use Rattle.alb_top.specs.View.{answer, judgement, IsAnswer, IsStatement, IsTimely, IsOrder, IsProgram, IsQuestion, AsksFor, MayBeAsked, CanBeWritten, of_problem, of_command, asks_of};
 
-use crate::reply::{Reply, Verdict};
+use crate::question::{begin, reply_to};
+use crate::reply::{Reply, Topic, Verdict};
 use alb_lex::Token;
 use alb_mono::{Letters, NoMemory};
 use alb_poly::Poly;
@@ -17,12 +18,17 @@ use alb_problem::{FinishError, Problem, ProblemBuilder, ProblemError};
 use alb_script::{Command, CommandError, Form, Refusal, read_command};
 use gf_field::Field;
 use std::alloc::Global;
+use std::sync::Arc;
 
-/// Whether the problem is being stated, or claims are made about it.
+/// How far a script has come.
 #[derive(Drop)]
 pub enum Stage {
+    /// The problem is being stated.
     Stating(ProblemBuilder),
-    Asking(Problem),
+    /// Claims are made about the problem.
+    Claiming(Problem),
+    /// Questions are asked about the problem, by its table.
+    Asking(Arc<Topic>),
 }
 
 fn name_field(builder: &mut ProblemBuilder, p: u64) -> Reply
@@ -83,6 +89,29 @@ fn state(builder: &mut ProblemBuilder, command: Command) -> Result<Reply, NoMemo
     }
 }
 
+// What a line of at most 65,536 bytes is, by the words that stand behind `build`.
+fn read_about(
+    alloc: Global,
+    line: &[u8],
+    form: Form,
+    problem: &Problem,
+) -> Result<Command, CommandError>
+    requires { length line.now ≤ 65536 }
+    ensures exact { Gives view result (asked form true (sum problem.now.rules.target) problem.now.rules.field problem.now.letters line.now) }
+    ensures read { IfOk result (λ c. HasRead problem.now.rules.field (length problem.now.letters) c) }
+    ensures told { MatchResult result (λ c. Unit {0}) (λ e. IsPlain e) }
+{
+    read_command(
+        alloc,
+        line,
+        form,
+        true,
+        problem.rules.target.degree(),
+        &problem.rules.field,
+        &problem.letters,
+    )
+}
+
 // What a command asks for.
 fn asks_of(command: Command) -> Asks
     ensures { result ≡ asks_of command }
@@ -94,13 +123,13 @@ fn asks_of(command: Command) -> Asks
 }
 
 // A line that is no command that may stand here.
-fn refused(line: &[u8], error: CommandError) -> Result<Asks, NoMemory>
-    ensures { result ≡ of_command (begins_claim line.now) error }
+fn refused(form: Form, line: &[u8], error: CommandError) -> Result<Asks, NoMemory>
+    ensures { result ≡ of_command (begins_block form line.now) error }
 {
     match error {
         CommandError::NoMemory => Err(NoMemory),
         error => {
-            if begins_claim(line) {
+            if begins_block(form, line) {
                 Ok(Asks::RefusedClaim(error))
             } else {
                 Ok(Asks::Refusal(error))
@@ -136,6 +165,16 @@ fn begins_claim(line: &[u8]) -> bool
     }
 }
 
+// Whether a line of this form is followed by a block.
+fn begins_block(form: Form, line: &[u8]) -> bool
+    ensures { result ≡ begins_block form line.now }
+{
+    match form {
+        Form::Check => begins_claim(line),
+        _ => false,
+    }
+}
+
 /// What a line asks for.
 pub enum Asks {
     /// A command other than a claim.
@@ -151,6 +190,7 @@ pub enum Asks {
 /// A script as far as it was read.
 #[derive(Drop)]
 pub struct Script {
+    form: Form,
     stage: Stage,
     closed: bool,
     clean: bool,
@@ -160,25 +200,29 @@ impl Script {
     ghost use Rattle.alb_top.specs.Script.{State};
     ghost use Rattle.alb_top.specs.View.{state, IsScript};
 
-    pub fn new(alloc: Global) -> Script
-        ensures value { state result ≡ start }
+    pub fn new(alloc: Global, form: Form) -> Script
+        requires { IsProgram form }
+        ensures value { state result ≡ start form }
         ensures script { IsScript result }
     {
         Script {
+            form,
             stage: Stage::Stating(ProblemBuilder::new(alloc)),
             closed: false,
             clean: true,
         }
     }
 
-    /// The problem, where it is accepted.
+    /// The problem of a check, where it is accepted.
     pub fn problem(&self) -> Option<&Problem>
-        ensures some { IfSome result (λ q. self.now.stage ≡ Stage.Asking q.now) }
-        ensures none { IfNone result ((state self.now).built ≡ false) }
+        requires { IsScript self.now }
+        ensures some { IfSome result (λ q. self.now.stage ≡ Stage.Claiming q.now) }
+        ensures none { IfNone result ((state self.now).form ≡ Form.Check → (state self.now).built ≡ false) }
     {
         match &self.stage {
             Stage::Stating(_) => None,
-            Stage::Asking(problem) => Some(problem),
+            Stage::Claiming(problem) => Some(problem),
+            Stage::Asking(_) => None,
         }
     }
 
@@ -202,39 +246,25 @@ impl Script {
     {
         match &self.stage {
             Stage::Stating(builder) => builder.field(),
-            Stage::Asking(problem) => &problem.rules.field,
+            Stage::Claiming(problem) => &problem.rules.field,
+            Stage::Asking(topic) => &topic.problem.rules.field,
         }
     }
 
     // What a line of at most 65,536 bytes is, by the words that stand here.
     fn command(&self, alloc: Global, line: &[u8]) -> Result<Command, CommandError>
         requires { length line.now ≤ 65536 }
-        ensures exact { Gives view result (asked Check (state self.now).built (total_of (state self.now)) (state self.now).problem.field (letters_of (state self.now)) line.now) }
+        ensures exact { Gives view result (asked (state self.now).form (state self.now).built (total_of (state self.now)) (state self.now).problem.field (letters_of (state self.now)) line.now) }
         ensures read { IfOk result (λ c. HasRead (state self.now).problem.field (length (letters_of (state self.now))) c) }
         ensures told { MatchResult result (λ c. Unit {0}) (λ e. IsPlain e) }
     {
         match &self.stage {
             Stage::Stating(builder) => {
                 let unnamed = Letters::of(&[]);
-                read_command(
-                    alloc,
-                    line,
-                    Form::Check,
-                    false,
-                    0,
-                    builder.field(),
-                    &unnamed,
-                )
+                read_command(alloc, line, self.form, false, 0, builder.field(), &unnamed)
             }
-            Stage::Asking(problem) => read_command(
-                alloc,
-                line,
-                Form::Check,
-                true,
-                problem.rules.target.degree(),
-                &problem.rules.field,
-                &problem.letters,
-            ),
+            Stage::Claiming(problem) => read_about(alloc, line, self.form, problem),
+            Stage::Asking(topic) => read_about(alloc, line, self.form, &topic.problem),
         }
     }
 
@@ -246,7 +276,7 @@ impl Script {
     {
         match self.command(alloc, line) {
             Ok(command) => Ok(asks_of(command)),
-            Err(error) => refused(line, error),
+            Err(error) => refused(self.form, line, error),
         }
     }
 
@@ -259,6 +289,7 @@ impl Script {
         ensures script { IsScript result.1 }
     {
         let next = Script {
+            form: self.form,
             stage: self.stage,
             closed: self.closed,
             clean: false,
@@ -275,6 +306,7 @@ impl Script {
     {
         let is_accepted = verdict.is_accepted();
         let next = Script {
+            form: self.form,
             stage: self.stage,
             closed: self.closed,
             clean: is_accepted && self.clean,
@@ -285,13 +317,15 @@ impl Script {
     // The script behind a statement about the problem, and the answer.
     fn state(self, command: Command) -> Result<(Reply, Script), NoMemory>
         requires statement { IsStatement (view command) }
-        requires timely { IsTimely (state self).built (view command) }
+        requires program { IsProgram (state self).form }
+        requires stating { (state self).built ≡ false }
         requires read { HasRead (state self).problem.field (length (letters_of (state self))) command }
         ensures told { IfOk result (λ r. (answer r.0, state r.1) ≡ obey (state self) (view command)) }
         ensures fine { IfOk result (λ r. IsAnswer r.0) }
         ensures script { IfOk result (λ r. IsScript r.1) }
     {
         let Script {
+            form,
             stage,
             closed,
             clean,
@@ -302,6 +336,7 @@ impl Script {
         let reply = state(&mut builder, command)?;
         let is_clean = reply.is_clean();
         let next = Script {
+            form,
             stage: Stage::Stating(builder),
             closed,
             clean: is_clean && clean,
@@ -310,21 +345,43 @@ impl Script {
     }
 
     /// The script behind a command other than a claim, and the answer.
-    pub fn obey(self, command: Command) -> Result<(Reply, Script), NoMemory>
+    pub fn obey(self, alloc: Global, command: Command) -> Result<(Reply, Script), NoMemory>
         requires order { IsOrder (view command) }
-        requires timely { IsTimely (state self).built (view command) }
+        requires timely { IsTimely (state self).form (state self).built (view command) }
         requires read { HasRead (state self).problem.field (length (letters_of (state self))) command }
         requires script { IsScript self }
-        ensures told { IfOk result (λ r. (answer r.0, state r.1) ≡ obey (state self) (view command)) }
+        requires sound { IsSoundProblem (state self).problem }
+        ensures told { IfOk result (λ r. Obeys (state self) (view command) (answer r.0) (state r.1)) }
         ensures fine { IfOk result (λ r. IsAnswer r.0) }
         ensures script { IfOk result (λ r. IsScript r.1) }
     {
         match command {
             Command::Blank => Ok((Reply::Nothing, self)),
-            Command::Build => Ok(self.build()),
+            Command::Build => self.build(alloc),
             Command::Quit => Ok((Reply::Nothing, self.close())),
+            Command::Polynomial(_) | Command::Dimensions | Command::Table => {
+                self.answer(alloc, command)
+            }
             statement => self.state(statement),
         }
+    }
+
+    // The script behind a question, and the answer.
+    fn answer(self, alloc: Global, command: Command) -> Result<(Reply, Script), NoMemory>
+        requires question { IsQuestion (view command) }
+        requires timely { IsTimely (state self).form (state self).built (view command) }
+        requires read { HasRead (state self).problem.field (length (letters_of (state self))) command }
+        requires script { IsScript self }
+        requires sound { IsSoundProblem (state self).problem }
+        ensures told { IfOk result (λ r. Obeys (state self) (view command) (answer r.0) (state r.1)) }
+        ensures fine { IfOk result (λ r. IsAnswer r.0) }
+        ensures script { IfOk result (λ r. IsScript r.1) }
+    {
+        let Stage::Asking(topic) = &self.stage else {
+            unreachable!();
+        };
+        let reply = reply_to(alloc, topic, &command)?;
+        Ok((reply, self))
     }
 
     // The script behind its end.
@@ -334,6 +391,7 @@ impl Script {
         ensures script { IsScript result }
     {
         Script {
+            form: self.form,
             stage: self.stage,
             closed: true,
             clean: self.clean,
@@ -341,13 +399,15 @@ impl Script {
     }
 
     // The script behind the end of the problem, and the answer.
-    fn build(self) -> (Reply, Script)
+    fn build(self, alloc: Global) -> Result<(Reply, Script), NoMemory>
+        requires program { IsProgram (state self).form }
         requires stating { (state self).built ≡ false }
-        ensures told { (answer result.0, state result.1) ≡ obey (state self) Build }
-        ensures fine { IsAnswer result.0 }
-        ensures script { IsScript result.1 }
+        ensures told { IfOk result (λ r. Obeys (state self) Build (answer r.0) (state r.1)) }
+        ensures fine { IfOk result (λ r. IsAnswer r.0) }
+        ensures script { IfOk result (λ r. IsScript r.1) }
     {
         let Script {
+            form,
             stage,
             closed,
             clean,
@@ -357,26 +417,23 @@ impl Script {
         };
         match builder.finish() {
             Ok(problem) => {
-                let stage = Stage::Asking(problem);
-                (
-                    Reply::Ready,
-                    Script {
-                        stage,
-                        closed,
-                        clean,
-                    },
-                )
+                let (reply, stage) = begin(alloc, form, problem)?;
+                let next = Script {
+                    form,
+                    stage,
+                    closed,
+                    clean,
+                };
+                Ok((reply, next))
             }
             Err(FinishError { builder, error }) => {
-                let stage = Stage::Stating(builder);
-                (
-                    Reply::Refused(Refusal::Problem(error)),
-                    Script {
-                        stage,
-                        closed,
-                        clean: false,
-                    },
-                )
+                let next = Script {
+                    form,
+                    stage: Stage::Stating(builder),
+                    closed,
+                    clean: false,
+                };
+                Ok((Reply::Refused(Refusal::Problem(error)), next))
             }
         }
     }

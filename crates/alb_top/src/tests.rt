@@ -1,3 +1,5 @@
+mod batch;
+
 use crate::run_albert;
 use alb_io::{MemDesk, MemSink, MemSource, Status};
 use std::alloc::Global;

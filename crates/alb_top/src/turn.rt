@@ -15,7 +15,7 @@ use crate::script::{Asks, Script};
 use alb_evidence::{SkipError, read_evidence, skip_evidence};
 use alb_io::{LineReader, LineStep, NoMemory, Source};
 use alb_poly::Poly;
-use alb_script::{CommandError, Refusal};
+use alb_script::{CommandError, Form, Refusal};
 use std::alloc::Global;
 
 /// What came of a turn: the answer to a line, or to the end of the lines, with the script behind it; or that there is no
@@ -51,6 +51,7 @@ fn take_claim<S: Source>(
     requires script { IsScript script }
     requires going { (state script).closed ≡ false }
     requires sound { IsSound (state script) }
+    requires check { (state script).form ≡ Form.Check }
     requires built { (state script).built ≡ true }
     requires read { IsRead (state script).problem.field (length (letters_of (state script))) claim.now }
     ensures takes { TakesTurn result reader.old reader.new (claimed claim.now (state script)) (S.left input.old) (S.left input.new) }
@@ -121,7 +122,7 @@ fn take_asked<S: Source>(
     ensures sound { S.is_sound input.old → S.is_sound input.new × (result ≢ Taken.ReadFault) }
 {
     match asks {
-        Asks::Command(command) => match script.obey(command) {
+        Asks::Command(command) => match script.obey(alloc, command) {
             Ok((reply, next)) => Taken::Reply(reply, next),
             Err(NoMemory) => Taken::NoMemory,
         },

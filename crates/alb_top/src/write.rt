@@ -1,17 +1,22 @@
-ghost use Rattle.std.specs.Prelude.{◌≡◌, ◌∷◌, decimal};
+ghost use Rattle.std.specs.Prelude.{◌≡◌, ◌∷◌, decimal, length};
 ghost use Rattle.std.specs.List.{flat_map};
 ghost use Rattle.alb_io.specs.Causes.{HasCause};
 ghost use Rattle.alb_io.specs.Puts.{Puts};
 ghost use Rattle.alb_script.specs.Refusals.{line_of};
+ghost use Rattle.alb_query.specs.Views.{answer_of};
+ghost use Rattle.alb_query.specs.Answer.{IsOver};
+ghost use Rattle.alb_answer.specs.Answers.{answer_line};
 ghost use Rattle.alb_top.specs.Verdict.{numbered, verdict_text, failure_text, places_text};
 ghost use Rattle.alb_top.specs.Script.{text_of};
 ghost use Rattle.alb_top.specs.View.{rejection_text, judgement, answer, IsAnswer};
 
-use crate::reply::{Rejection, Reply, Verdict};
+use crate::reply::{Rejection, Reply, Topic, Verdict};
+use alb_answer::{write_answer, write_built, write_dimensions, write_products};
 use alb_io::{Sink, WriteFault, put_all};
 use alb_mono::Letters;
+use alb_print::write_count;
+use alb_query::Reply as Answer;
 use alb_script::write_refusal;
-use itoa::Buffer;
 
 /// Writes what is answered. No refusal prints by the generators' letters.
 pub fn write_reply<K: Sink>(sink: &mut K, reply: &Reply) -> Result<(), WriteFault>
@@ -25,9 +30,34 @@ pub fn write_reply<K: Sink>(sink: &mut K, reply: &Reply) -> Result<(), WriteFaul
         Reply::Ok => put_all(sink, b"ok\n"),
         Reply::Identity(number) => write_numbered(sink, b"identity ", u64::from(*number)),
         Reply::Ready => put_all(sink, b"ready\n"),
+        Reply::Built(degree, end) => write_built(sink, *degree, end),
+        Reply::Answer(topic, answer) => write_to_question(sink, topic, answer),
+        Reply::Dimensions(topic) => write_dimensions(sink, &topic.tables),
+        Reply::Products(topic) => write_products(sink, &topic.problem.letters, &topic.tables),
         Reply::Refused(refusal) => write_refusal(sink, &Letters::all(), refusal),
         Reply::Judged(verdict) => write_verdict(sink, verdict),
     }
+}
+
+// Writes the answer to a question about a polynomial.
+fn write_to_question<K: Sink>(
+    sink: &mut K,
+    topic: &Topic,
+    answer: &Answer,
+) -> Result<(), WriteFault>
+    requires { IsOver topic.now.tables.p (length topic.now.problem.letters) (answer_of answer.now) }
+    ensures puts { Puts result (K.taken sink.old) (K.taken sink.new) (answer_line topic.now.tables.p topic.now.problem.letters topic.now.tables.degree (answer_of answer.now)) }
+    ensures same_name { K.name sink.new ≡ K.name sink.old }
+    ensures cause { HasCause (K.faults sink.old) (K.faults sink.new) result }
+{
+    let Topic { problem, tables } = topic;
+    write_answer(
+        sink,
+        tables.field(),
+        &problem.letters,
+        tables.degree(),
+        answer,
+    )
 }
 
 fn write_verdict<K: Sink>(sink: &mut K, verdict: &Verdict) -> Result<(), WriteFault>
@@ -68,7 +98,7 @@ fn write_failure<K: Sink>(sink: &mut K, identity: u32, tuple: &[u64]) -> Result<
     ensures cause { HasCause (K.faults sink.old) (K.faults sink.new) result }
 {
     put_all(sink, b"rejected 61 identity ")?;
-    write_number(sink, u64::from(identity))?;
+    write_count(sink, u64::from(identity))?;
     write_places(sink, tuple)
 }
 
@@ -100,7 +130,7 @@ fn write_element<K: Sink>(sink: &mut K, element: u64) -> Result<(), WriteFault>
     ensures cause { HasCause (K.faults sink.old) (K.faults sink.new) result }
 {
     put_all(sink, b" ")?;
-    write_number(sink, element)
+    write_count(sink, element)
 }
 
 // Writes a line that ends with a number.
@@ -110,15 +140,6 @@ fn write_numbered<K: Sink>(sink: &mut K, front: &[u8], number: u64) -> Result<()
     ensures cause { HasCause (K.faults sink.old) (K.faults sink.new) result }
 {
     put_all(sink, front)?;
-    write_number(sink, number)?;
+    write_count(sink, number)?;
     put_all(sink, b"\n")
-}
-
-fn write_number<K: Sink>(sink: &mut K, number: u64) -> Result<(), WriteFault>
-    ensures puts { Puts result (K.taken sink.old) (K.taken sink.new) (decimal number) }
-    ensures same_name { K.name sink.new ≡ K.name sink.old }
-    ensures cause { HasCause (K.faults sink.old) (K.faults sink.new) result }
-{
-    let mut buffer = Buffer::new();
-    put_all(sink, buffer.format(number).as_bytes())
 }

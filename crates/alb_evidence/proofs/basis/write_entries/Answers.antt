@@ -4,7 +4,7 @@ use Rattle.std.proofs.lemmas.Result.{err_from_is_err_and}
 use Rattle.alb_io.proofs.Fronts.{Front}
 use Rattle.alb_print.proofs.Writes.{Front-text, Front-fault}
 use Rattle.alb_evidence.specs.Texts.{entry_text}
-use Rattle.alb_evidence.proofs.WriteLemmas.{flat-get}
+use Rattle.alb_print.proofs.Pieces.{flat-get}
 use Rattle.alb_evidence.proofs.basis.write_entries.Goals as goal
 
 pub returns-in_err-write_entry-clause-puts : goal.returns-in_err-write_entry-clause-puts

@@ -1,7 +1,7 @@
 use Rattle.std.proofs.Common.{codes, ◌++◌, ◌∷◌, [], slice_index}
 use Rattle.std.proofs.lemmas.Result.{err_from_is_err_and}
 use Rattle.alb_io.proofs.Fronts.{AppendsFront-more, AppendsFront-then, Puts-then}
-use Rattle.alb_evidence.specs.Texts.{named}
+use Rattle.alb_print.specs.Text.{named}
 use Rattle.alb_evidence.proofs.basis.write_place.Goals as goal
 
 pub returns-in_err-put_all-clause-puts : goal.returns-in_err-put_all-clause-puts

@@ -3,7 +3,8 @@ use Rattle.std.specs.List.{flat_map}
 use Rattle.std.proofs.lemmas.Result.{err_from_is_err_and}
 use Rattle.alb_io.proofs.Fronts.{AppendsFront-more, Puts-then}
 use Rattle.alb_mono.specs.Mono.{tree}
-use Rattle.alb_evidence.specs.Texts.{named, spaced_mono}
+use Rattle.alb_print.specs.Text.{named}
+use Rattle.alb_evidence.specs.Texts.{spaced_mono}
 use Rattle.alb_evidence.proofs.derivation.write_instance.Goals as goal
 
 pub returns-in_err-write_named-clause-puts : goal.returns-in_err-write_named-clause-puts

@@ -1,7 +1,8 @@
 use Rattle.std.proofs.Common.{codes, ◌++◌}
 use Rattle.std.proofs.lemmas.Result.{err_from_is_err_and}
 use Rattle.alb_io.proofs.Fronts.{AppendsFront-more, AppendsFront-then, Puts-then}
-use Rattle.alb_evidence.specs.Texts.{named, signed_text}
+use Rattle.alb_print.specs.Text.{named}
+use Rattle.alb_evidence.specs.Texts.{signed_text}
 use Rattle.alb_evidence.proofs.derivation.write_item.Goals as goal
 
 pub returns-in_err-put_all-clause-puts : goal.returns-in_err-put_all-clause-puts

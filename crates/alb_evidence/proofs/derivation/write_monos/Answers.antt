@@ -5,7 +5,7 @@ use Rattle.alb_io.proofs.Fronts.{Front}
 use Rattle.alb_mono.specs.Mono.{tree}
 use Rattle.alb_print.proofs.Writes.{Front-text, Front-fault}
 use Rattle.alb_evidence.specs.Texts.{spaced_mono}
-use Rattle.alb_evidence.proofs.WriteLemmas.{flat-map-at}
+use Rattle.alb_print.proofs.Pieces.{flat-map-at}
 use Rattle.alb_evidence.proofs.derivation.write_monos.Goals as goal
 
 pub returns-in_err-write_spaced-clause-puts : goal.returns-in_err-write_spaced-clause-puts

@@ -2,8 +2,8 @@ use Rattle.std.proofs.Common.{codes, ◌++◌, false}
 use Rattle.std.proofs.lemmas.Result.{err_from_is_err_and}
 use Rattle.alb_io.proofs.Fronts.{AppendsFront-more, AppendsFront-then, Puts-then}
 use Rattle.alb_mono.specs.Mono.{tree}
-use Rattle.alb_print.specs.Text.{mono_text}
-use Rattle.alb_evidence.specs.Texts.{named, side_text}
+use Rattle.alb_print.specs.Text.{mono_text, named}
+use Rattle.alb_evidence.specs.Texts.{side_text}
 use Rattle.alb_evidence.proofs.derivation.write_times.Goals as goal
 
 pub returns-in_err-write_named-clause-puts : goal.returns-in_err-write_named-clause-puts

@@ -1,5 +1,6 @@
 use Rattle.std.proofs.Common.{◌≤◌, ◌<◌, ℕ, length, sym, subst, arith}
-use Rattle.std.specs.Prelude.{IsTrue}
+use Rattle.std.specs.Prelude.{IsTrue, All}
+use Rattle.alb_mono.specs.Mono.{tree}
 use Rattle.alb_mono.specs.Tree.{Tree, are_below}
 use Rattle.alb_poly.specs.Poly.{greatest_degree}
 use Rattle.alb_poly.specs.Rules.{forms}
@@ -7,8 +8,8 @@ use Rattle.alb_table.proofs.FirstLemmas.{few_generators}
 use Rattle.alb_table.proofs.GeneratorLemmas.{above_one}
 use Rattle.alb_table.specs.PartView.{mono_at}
 use Rattle.alb_query.specs.Answer.{IsNormalForm}
-use Rattle.alb_query.proofs.AnswerLemmas.{all-terms, all-within, not-built, zero-answer, not-zero-answer, not-both}
-use Rattle.alb_query.proofs.ValueLemmas.{zero-consequence, consequence-zero, value-normal_form, row-residues}
+use Rattle.alb_query.proofs.AnswerLemmas.{all-terms, all-within, not-built, zero-answer, not-zero-answer, not-both, misfit-known}
+use Rattle.alb_query.proofs.ValueLemmas.{zero-consequence, consequence-zero, value-normal_form, row-residues, normal_form-known}
 use Rattle.alb_query.proofs.answers.answer.Goals as goal
 
 pub misfit-requires-clause-few : goal.misfit-requires-clause-few
@@ -18,11 +19,20 @@ pub misfit-requires-clause-known : goal.misfit-requires-clause-known
 misfit-requires-clause-known c =
     rw c.target.ensures.value (all-terms (λ (t : ℕ × Tree). IsTrue (are_below (length c.args.tables.now.target) t.1)) c.terms.result.now c.args.g.now c.terms.ensures.value c.requires.known)
 
+pub returns-in-Some-clause-over : goal.returns-in-Some-clause-over
+returns-in-Some-clause-over c =
+    let m = rw (c.target.ensures.value, c.terms.ensures.value) at c.in-Some.ensures in
+    subst (λ x. IsTrue (are_below (length c.args.tables.now.target) x)) (sym c.in_ok-try_copy.ensures)
+    (misfit-known (length c.args.tables.now.target) c.args.tables.now.target c.args.g.now (tree c.in-Some.m.now) m c.requires.known)
+
 pub returns-then-degree : goal.returns-then-degree
 returns-then-degree c =
     let m = rw (c.target.ensures.value, c.terms.ensures.value) at c.in_default.ensures in
-    not-built c.args.tables.now.p (forms c.args.rules.now) c.args.tables.now.target c.args.tables.now.degree c.args.g.now m c.degree-degree.result c.degree-degree.ensures.value
-    (rw (← c.degree.ensures.value) c.if-degree.true)
+    record {
+      answer = not-built c.args.tables.now.p (forms c.args.rules.now) c.args.tables.now.target c.args.tables.now.degree c.args.g.now m c.degree-degree.result c.degree-degree.ensures.value
+          (rw (← c.degree.ensures.value) c.if-degree.true);
+      over = tt;
+    }
 
 pub returns-then-is_zero : goal.returns-then-is_zero
 returns-then-is_zero c =
@@ -30,9 +40,12 @@ returns-then-is_zero c =
     let t = c.args.tables.now in
     let h : greatest_degree c.args.g.now ≤ t.degree = let x = c.degree-degree.ensures.value in let y = c.degree.ensures.value in let z = c.if-degree.false in omega arith in
     let pos : 0 < t.p = let o = above_one t c.target.ensures.table in omega arith in
-    zero-answer t.p (forms c.args.rules.now) t.target t.degree c.args.g.now m h
-    (zero-consequence (forms c.args.rules.now) t c.target.ensures.table c.requires.right pos c.requires.multilinear c.requires.high c.args.g.now (all-within t.target t.degree c.args.g.now m h)
-    c.in_ok-value.value c.in_ok-value.ensures.row c.in_ok-value.ensures.value (c.is_zero.ensures.value.0 c.if-is_zero.true))
+    record {
+      answer = zero-answer t.p (forms c.args.rules.now) t.target t.degree c.args.g.now m h
+          (zero-consequence (forms c.args.rules.now) t c.target.ensures.table c.requires.right pos c.requires.multilinear c.requires.high c.args.g.now (all-within t.target t.degree c.args.g.now m h)
+          c.in_ok-value.value c.in_ok-value.ensures.row c.in_ok-value.ensures.value (c.is_zero.ensures.value.0 c.if-is_zero.true));
+      over = tt;
+    }
 
 pub from_terms-requires : goal.from_terms-requires
 from_terms-requires c = rw c.field.ensures
@@ -48,8 +61,15 @@ returns c =
     let n = value-normal_form (forms c.args.rules.now) t c.target.ensures.table c.requires.right pos c.requires.multilinear c.requires.high c.args.g.now w
     c.in_ok-value.value c.in_ok-value.ensures.row c.in_ok-value.ensures.value in
     let e = rw (c.field.ensures, c.in_ok-list.ensures.value) at c.in_ok-from_terms.ensures.value in
-    not-zero-answer t.p (forms c.args.rules.now) t.target t.degree c.args.g.now m h
-    (λ q. (let z = consequence-zero (forms c.args.rules.now) t c.target.ensures.table c.requires.right pos c.requires.multilinear c.requires.high c.args.g.now w
-    c.in_ok-value.value c.in_ok-value.ensures.row c.in_ok-value.ensures.value q in
-    not-both _ c.if-is_zero.false (c.is_zero.ensures.value.1 z)))
-    c.in_ok-from_terms.field-0 (subst (IsNormalForm t.p (forms c.args.rules.now) c.args.g.now) (sym e) n)
+    record {
+      answer = not-zero-answer t.p (forms c.args.rules.now) t.target t.degree c.args.g.now m h
+          (λ q. (let z = consequence-zero (forms c.args.rules.now) t c.target.ensures.table c.requires.right pos c.requires.multilinear c.requires.high c.args.g.now w
+          c.in_ok-value.value c.in_ok-value.ensures.row c.in_ok-value.ensures.value q in
+          not-both _ c.if-is_zero.false (c.is_zero.ensures.value.1 z)))
+          c.in_ok-from_terms.field-0 (subst (IsNormalForm t.p (forms c.args.rules.now) c.args.g.now) (sym e) n);
+      over = (
+        rw c.field.ensures at c.in_ok-from_terms.ensures.residues,
+        subst (λ f. All (λ s. IsTrue (are_below (length t.target) s.1)) f) (sym e)
+            (normal_form-known (forms c.args.rules.now) t c.target.ensures.table c.requires.right t.p c.in_ok-value.value c.in_ok-value.ensures.row.below),
+      );
+    }

@@ -5,7 +5,7 @@ use Rattle.alb_top.proofs.run.run_script.Given as goal
 
 abbrev pub invariant-turns : goal.invariant-turns
 invariant-turns g l = record {
-  going : Going l.reader (state l.script) (g.S.Source.left l.fn.input) (g.S.Source.left l.input) (g.K.Sink.taken l.fn.output) (g.K.Sink.taken l.output);
+  going : Going (state l.fn.first).form l.reader (state l.script) (g.S.Source.left l.fn.input) (g.S.Source.left l.input) (g.K.Sink.taken l.fn.output) (g.K.Sink.taken l.output);
   runs : (state l.script).closed ≡ false;
   script : IsScript l.script;
   not_ended : l.reader.ended ≡ false;

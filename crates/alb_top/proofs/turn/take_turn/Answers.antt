@@ -1,6 +1,6 @@
 use Rattle.std.proofs.Common.{◌≡◌, [], ◌∷◌, List, ℕ, Option, Some, refl, subst, sym, ◌∙◌}
 use Rattle.alb_top.specs.View.{state, AsksFor, answer}
-use Rattle.alb_top.proofs.TurnLemmas.{answers-line, step-command, command-long}
+use Rattle.alb_top.proofs.TurnLemmas.{answers-line, step-command, commands-long}
 use Rattle.alb_top.proofs.turn.take_turn.Goals as goal
 
 same_line : (a b : List ℕ) (o : Option (List ℕ)) → Some a ≡ o → o ≡ Some b → a ≡ b
@@ -23,7 +23,7 @@ returns-in-TooLong-clause-takes g c =
     let r = c.in-TooLong.ensures.reads in
     answers-line _ _ (state c.args.script) (state c.refuse-reply.result.1) _ _ r.gives.0 (answer c.refuse-reply.result.0) (record { answer = _; reads = r; is_first = r.gives.3; running = r.gives.4 })
     (step-command (state c.args.script) (state c.refuse-reply.result.1) r.gives.0 (answer c.refuse-reply.result.0) c.requires.going refl
-    (c.refuse-reply.ensures.told ∙ sym (command-long (state c.args.script) r.gives.0 r.gives.2)))
+    (commands-long (state c.args.script) (state c.refuse-reply.result.1) r.gives.0 (answer c.refuse-reply.result.0) r.gives.2 c.refuse-reply.ensures.told))
 
 pub returns-in-End-clause-takes : goal.returns-in-End-clause-takes
 returns-in-End-clause-takes g c = record {

@@ -9,4 +9,4 @@ returns-in_err-put_all-clause-puts g c =
     rw p.1 (AppendsFront-more _ _ (codes " ") (decimal c.args.element) c.in_err-put_all.ensures.puts)
 
 pub returns-clause-puts : goal.returns-clause-puts
-returns-clause-puts g c = Puts-then c.write_number.result _ _ _ (codes " ") (decimal c.args.element) c.in_ok-put_all.ensures.puts c.write_number.ensures.puts
+returns-clause-puts g c = Puts-then c.write_count.result _ _ _ (codes " ") (decimal c.args.element) c.in_ok-put_all.ensures.puts c.write_count.ensures.puts

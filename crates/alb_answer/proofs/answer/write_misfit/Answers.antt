@@ -1,0 +1,14 @@
+use Rattle.std.proofs.Common.{codes, false}
+use Rattle.alb_mono.specs.Mono.{tree}
+use Rattle.alb_print.specs.Text.{mono_text}
+use Rattle.std.proofs.lemmas.Result.{err_from_is_err_and}
+use Rattle.alb_io.proofs.Fronts.{AppendsFront-more, Puts-then}
+use Rattle.alb_answer.proofs.answer.write_misfit.Goals as goal
+
+pub returns-in_err-put_all-clause-puts : goal.returns-in_err-put_all-clause-puts
+returns-in_err-put_all-clause-puts g c =
+    let p = err_from_is_err_and c.from_residual.result c.from_residual.ensures.1 in
+    rw p.1 (AppendsFront-more _ _ (codes "out of type: ") (mono_text c.args.letters.now false (tree c.args.m.now)) c.in_err-put_all.ensures.puts)
+
+pub returns-clause-puts : goal.returns-clause-puts
+returns-clause-puts g c = Puts-then c.write_mono.result _ _ _ (codes "out of type: ") (mono_text c.args.letters.now false (tree c.args.m.now)) c.in_ok-put_all.ensures.puts c.write_mono.ensures.puts

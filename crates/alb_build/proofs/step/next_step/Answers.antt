@@ -1,0 +1,27 @@
+use Rattle.std.proofs.Common.{map}
+use Rattle.alb_block.specs.View.{block_view}
+use Rattle.alb_poly.specs.Rules.{forms}
+use Rattle.alb_table.specs.Limits.{next_types}
+use Rattle.alb_build.specs.Next.{PassesProducts, PassesCoefficients}
+use Rattle.alb_build.proofs.Wide.{all-narrow}
+use Rattle.alb_build.proofs.step.next_step.Goals as goal
+
+pub returns-in-Err-TooManyProducts : goal.returns-in-Err-TooManyProducts
+returns-in-Err-TooManyProducts c =
+    let h : PassesProducts c.args.tables.now c.in-Err-TooManyProducts.count = rw c.in-Err-TooManyProducts.field-0-is at c.in-Err-TooManyProducts.ensures in
+    record {
+      goes_on = record { room = c.requires.room; narrow = all-narrow (forms c.args.rules.now) c.args.tables.now (next_types c.args.tables.now) (map block_view c.in-Ok.blocks.items) c.in-Ok.ensures.blocks };
+      number = h.number;
+      many = h.many;
+    }
+
+pub returns-in-Err-TooManyCoefficients : goal.returns-in-Err-TooManyCoefficients
+returns-in-Err-TooManyCoefficients c =
+    let h : PassesCoefficients (forms c.args.rules.now) c.args.tables.now c.in-Err-TooManyCoefficients.count =
+    rw c.in-Err-TooManyCoefficients.field-0-is at c.in-Err-TooManyCoefficients.ensures in
+    record {
+      goes_on = record { room = c.requires.room; narrow = all-narrow (forms c.args.rules.now) c.args.tables.now (next_types c.args.tables.now) (map block_view c.in-Ok.blocks.items) c.in-Ok.ensures.blocks };
+      few = h.few;
+      next = h.next;
+      many = h.many;
+    }

@@ -1,0 +1,63 @@
+-- What the answer to a question means, and that each question has one.
+use Rattle.std.proofs.Common.{◌≡◌, ℕ, ◌<◌, Bool, true, false, List, [], ◌∷◌, length, map, sum, Option, Some, None, refl, sym, ap, ◌∙◌, subst, nat_lt}
+use Rattle.std.specs.Prelude.{IsTrue, All, if◌then◌else◌}
+use Rattle.gf_field.proofs.Table.{IsPrime-from_table}
+use Rattle.alb_mono.specs.Listing.{Each}
+use Rattle.alb_mono.specs.Tree.{Tree, are_below, type_of, type_le}
+use Rattle.alb_mono.proofs.Leaves.{below_from_test, and_left, and_right}
+use Rattle.alb_poly.specs.Poly.{Poly, greatest_degree}
+use Rattle.alb_poly.specs.Instance.{Form}
+use Rattle.alb_poly.specs.Identity.{IsAtMost, IsWithin}
+use Rattle.alb_poly.specs.Consequence.{IsConsequence}
+use Rattle.alb_poly.specs.Textbook.{IsTextConsequence}
+use Rattle.alb_problem.specs.Builder.{Builder, with_degrees}
+use Rattle.alb_problem.specs.Refusals.{finish_refusal}
+use Rattle.alb_problem.proofs.TextbookLemmas.{IsWithin-terms, MatchesTextbook-linearizations}
+use Rattle.alb_table.specs.Table.{Table}
+use Rattle.alb_query.specs.Answer.{Answer, Zero, NotZero, NotBuilt, OutOfType, fits, misfit, IsAnswer, AnswersUnless, AnswersFitting, AnswersWithin}
+use Rattle.alb_top.specs.Verdict.{IsMeant}
+use Rattle.alb_top.specs.Script.{IsTableOf, forms_of}
+use Rattle.alb_top.specs.Sound.{IsSoundProblem}
+use Rattle.alb_top.proofs.ProblemLemmas.{text-consequence, table-positive, same-named, all-homogeneous, polynomials-named, accepted-large}
+
+fits-first : (b : Bool) (target : List ℕ) (m : Tree) (rest : Option Tree) → fits target m ≡ b → (if b then rest else Some m) ≡ None → (fits target m ≡ true) × (rest ≡ None)
+fits-first true target m rest is k = (is, k)
+fits-first false target m rest is k = absurd (cc)
+
+-- a polynomial without a misfit has no type that is not at most the target
+fitting : (target : List ℕ) (g : Poly) → misfit target g ≡ None → Each (λ t. IsAtMost target t.1) g
+fitting target [] h = tt
+fitting target (t ∷ g) h =
+    let k = fits-first (fits target t.1) target t.1 (misfit target g) refl h in
+    (record { below = below_from_test (length target) t.1 (and_left _ _ k.0); counts = and_right _ _ k.0 }, fitting target g k.1)
+
+-- within the target of an accepted problem the textbook's consequences are those of the linearizations
+from-text : (b : Builder) (g : Poly) → IsSoundProblem b → finish_refusal b ≡ None → misfit b.counts g ≡ None → IsTextConsequence b.field b.identities g → IsConsequence b.field (forms_of b) g
+from-text b g h accepted fit c =
+    (MatchesTextbook-linearizations b.field b.counts (forms_of b) (map with_degrees b.identities) (IsPrime-from_table b.field h.field) (accepted-large b accepted) (all-homogeneous b h)
+    (same-named b.field b.identities) g (IsWithin-terms b.field b.counts g (table-positive b.field h.field) (fitting b.counts g fit))).1
+    (subst (λ fs. IsTextConsequence b.field fs g) (sym (polynomials-named b.identities)) c)
+
+meant-within : (b : Builder) (g : Poly) (a : Answer) → IsSoundProblem b → finish_refusal b ≡ None → misfit b.counts g ≡ None → AnswersWithin b.field (forms_of b) g a → IsMeant b.field b.identities g a
+meant-within b g Zero h accepted fit is = text-consequence b g h is
+meant-within b g (NotZero f) h accepted fit is = λ c. is.0 (from-text b g h accepted fit c)
+meant-within b g (NotBuilt n) h accepted fit is = tt
+meant-within b g (OutOfType m) h accepted fit is = tt
+
+meant-fitting : (b : Builder) (g : Poly) (a : Answer) (high : Bool) → IsSoundProblem b → finish_refusal b ≡ None → misfit b.counts g ≡ None → AnswersFitting high b.field (forms_of b) g a
+    → IsMeant b.field b.identities g a
+meant-fitting b g a true h accepted fit is = subst (IsMeant b.field b.identities g) (sym is) tt
+meant-fitting b g a false h accepted fit is = meant-within b g a h accepted fit is
+
+meant-unless : (b : Builder) (d : ℕ) (g : Poly) (a : Answer) (o : Option Tree) → misfit b.counts g ≡ o → IsSoundProblem b → finish_refusal b ≡ None → AnswersUnless o b.field (forms_of b) d g a
+    → IsMeant b.field b.identities g a
+meant-unless b d g a None fit h accepted is = meant-fitting b g a (nat_lt d (greatest_degree g)) h accepted fit is
+meant-unless b d g a (Some m) fit h accepted is = subst (IsMeant b.field b.identities g) (sym is) tt
+
+-- an answer means what it says of the identities
+pub answer-meant : (b : Builder) (t : Table) (g : Poly) (a : Answer) → IsSoundProblem b → finish_refusal b ≡ None → IsTableOf b t → IsAnswer t.p (forms_of b) t.target t.degree g a
+    → IsMeant t.p b.identities g a
+answer-meant b t g a h accepted table is =
+    let at_field : IsAnswer b.field (forms_of b) b.counts t.degree g a =
+    subst (λ p. IsAnswer p (forms_of b) b.counts t.degree g a) table.field (subst (λ target. IsAnswer t.p (forms_of b) target t.degree g a) table.goal is) in
+    subst (λ p. IsMeant p b.identities g a) (sym table.field) (meant-unless b t.degree g a (misfit b.counts g) refl h accepted at_field)
