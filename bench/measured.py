@@ -16,8 +16,10 @@ def program():
     return path
 
 
-def run(path, script):
-    """Runs the check on the file SCRIPT. Returns the seconds, the peak memory in MB, the status and the output.
+def run(path, script, words=("check",)):
+    """Runs a program, the check where no other words are given, on the file SCRIPT.
+
+    Returns the seconds, the peak memory in MB, the status and the output.
 
     The seconds are the processor time of the process, which other work on the machine changes less than the time that
     passes. The process is one thread that never waits, so alone on a machine the two are alike.
@@ -31,7 +33,7 @@ def run(path, script):
             try:
                 os.dup2(given.fileno(), 0)
                 os.dup2(written.fileno(), 1)
-                os.execv(path, [path, "check"])
+                os.execv(path, [path, *words])
             finally:
                 os._exit(127)
         _, ended, used = os.wait4(child, 0)

@@ -14,6 +14,7 @@ use Rattle.alb_problem.specs.Builder.{Builder, with_degrees}
 use Rattle.alb_problem.specs.Refusals.{finish_refusal}
 use Rattle.alb_problem.proofs.TextbookLemmas.{IsWithin-terms, MatchesTextbook-linearizations}
 use Rattle.alb_table.specs.Table.{Table}
+use Rattle.alb_table.specs.Leading.{difference}
 use Rattle.alb_query.specs.Answer.{Answer, Zero, NotZero, NotBuilt, OutOfType, fits, misfit, IsAnswer, AnswersUnless, AnswersFitting, AnswersWithin}
 use Rattle.alb_top.specs.Verdict.{IsMeant}
 use Rattle.alb_top.specs.Script.{IsTableOf, forms_of}
@@ -40,7 +41,7 @@ from-text b g h accepted fit c =
 
 meant-within : (b : Builder) (g : Poly) (a : Answer) → IsSoundProblem b → finish_refusal b ≡ None → misfit b.counts g ≡ None → AnswersWithin b.field (forms_of b) g a → IsMeant b.field b.identities g a
 meant-within b g Zero h accepted fit is = text-consequence b g h is
-meant-within b g (NotZero f) h accepted fit is = λ c. is.0 (from-text b g h accepted fit c)
+meant-within b g (NotZero f) h accepted fit is = (λ c. is.0 (from-text b g h accepted fit c), text-consequence b (difference b.field g f) h is.1.congruent.differ)
 meant-within b g (NotBuilt n) h accepted fit is = tt
 meant-within b g (OutOfType m) h accepted fit is = tt
 

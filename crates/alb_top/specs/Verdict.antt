@@ -9,6 +9,7 @@ use Rattle.alb_deriv.specs.Derivation.{claim_fault}
 use Rattle.alb_check.specs.Verdict as tables
 use Rattle.alb_evidence.specs.Block as block
 use Rattle.alb_evidence.specs.Block.{Evidence, Fault, BadLine, BadNumber}
+use Rattle.alb_table.specs.Leading.{difference}
 use Rattle.alb_query.specs.Answer.{Answer, Zero, NotZero, NotBuilt, OutOfType}
 
 -- the claim is zero, or it is not, or the evidence is rejected, with this line
@@ -75,9 +76,10 @@ IsJustified p identities g AcceptedZero = IsTextConsequence p identities g
 IsJustified p identities g AcceptedNotZero = IsTextConsequence p identities g → ⊥
 IsJustified p identities g (Rejected text) = Unit {0}
 
--- an answer means what it says of the identities, in the textbook's sense
+-- what an answer says of the identities, in the textbook's sense: `zero` that the polynomial is a consequence, `not zero` that it
+-- is none, and differs from its normal form by one
 abbrev pub IsMeant : ℕ → List Poly → Poly → Answer → Type 0
 IsMeant p identities g Zero = IsTextConsequence p identities g
-IsMeant p identities g (NotZero f) = IsTextConsequence p identities g → ⊥
+IsMeant p identities g (NotZero f) = (IsTextConsequence p identities g → ⊥) × IsTextConsequence p identities (difference p g f)
 IsMeant p identities g (NotBuilt n) = Unit {0}
 IsMeant p identities g (OutOfType m) = Unit {0}
