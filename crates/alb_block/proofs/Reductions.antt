@@ -4,17 +4,18 @@ use Rattle.std.specs.Prelude.{Some}
 use Rattle.std.specs.List.{Contains}
 use Rattle.std.proofs.Math.Nat.{mod-eq_of_lt}
 use Rattle.std.proofs.lemmas.Bool.{cases_eq}
-use Rattle.std.proofs.lemmas.List.{get_or-map, get_or_past, length-map}
+use Rattle.std.proofs.lemmas.List.{get_or-map, get_or_past, get_or_append_left, get_or_push, length-map, length_push}
 use Rattle.gf_field.specs.Primes.{IsInTable}
 use Rattle.gf_field.proofs.Table.{IsPrime-from_table, IsUnit-below_prime}
 use Rattle.alb_rows.specs.Row.{Cells, ColumnsBelow, entry, IsRowOver, LeadsWith}
 use Rattle.alb_rows.specs.Span.{InSpan, ArePivots, rows_of}
 use Rattle.alb_rows.proofs.RowLemmas.{entry_past, leads_first}
 use Rattle.alb_rows.proofs.SpanLemmas.{difference_zero}
-use Rattle.alb_reduce.specs.Echelon.{IsCleared, IsClearedAt, AreClearedAt, NewPivot, IsAscendingBelow, IsKept}
+use Rattle.alb_reduce.specs.Echelon.{IsCleared, AreTakenOff, IsClearedAt, AreClearedAt, NewPivot, IsAscendingBelow, IsKept}
 use Rattle.alb_reduce.proofs.DiagonalLemmas.{zero_mod, add_zeros, mul_zero_right}
 use Rattle.alb_reduce.proofs.StateLemmas.{row_below}
-use Rattle.alb_reduce.proofs.EchelonLemmas.{cleared_none, cleared_more, cleared_at, dependent, new_pivot, positive, ascending_none, ascending_skip, ascending_more, form_pivots}
+use Rattle.alb_reduce.proofs.PlaceLemmas.{taken_none, taken_more}
+use Rattle.alb_reduce.proofs.EchelonLemmas.{cleared_at, dependent, new_pivot, positive, ascending_none, ascending_skip, ascending_more, form_pivots}
 use Rattle.alb_block.proofs.Vectors.{cells_of, entry-cells, cells-over, cells-below}
 
 -- w plus c times v
@@ -32,10 +33,29 @@ entry-added p n c w v a b j =
 cancels : (p x : ℕ) → 0 < p → (x + (p - 1) * x) % p ≡ 0
 cancels p x pos = difference_zero p (p - 1) x x (omega arith) refl
 
--- the row, cleared at the first k pivots
-record HasCleared (p n : ℕ) (pivots : List ℕ) (rows : List Cells) (k : ℕ) (row : Cells) : Type 0 where
+-- the places 0 to k - 1
+abbrev first_places : ℕ → List ℕ
+first_places zero = []
+first_places (suc k) = first_places k ++ k ∷ []
+
+length-first_places : (k : ℕ) → length (first_places k) ≡ k
+length-first_places zero = refl
+length-first_places (suc k) = let e = length_push (first_places k) k in omega (arith, e, length-first_places k)
+
+place-first_places : (k m : ℕ) → m < k → get_or (first_places k) m 0 ≡ m
+place-first_places zero m l = absurd (omega arith)
+place-first_places (suc k) m l = elim (cases_eq m k) [
+  | inl e ↦ rw e (get_or_push (first_places k) k 0 k (length-first_places k))
+  | inr ne ↦
+      let lm : m < k = omega arith in
+      get_or_append_left (first_places k) (k ∷ []) 0 m (omega (arith, lm, length-first_places k)) ∙ place-first_places k m lm
+]
+
+-- the row where the first k kept rows have been taken off
+record HasTakenOff (p n : ℕ) (pivots : List ℕ) (rows : List Cells) (k : ℕ) (row : Cells) : Type 0 where
   new : Cells
-  cleared : IsCleared p pivots rows k row new
+  over : IsRowOver p new
+  taken : AreTakenOff p pivots rows (first_places k) (entry row) (entry new)
   below : ColumnsBelow n new
 
 -- a new pivot row
@@ -48,22 +68,30 @@ module _ (p : ℕ) (prime : IsInTable p) (n : ℕ) (pivots : List ℕ) (rows : L
   pos : 0 < p
   pos = positive h.echelon.above
 
-  clear : (row : Cells) → IsRowOver p row → ColumnsBelow n row → (k : ℕ) → k ≤ length pivots → HasCleared p n pivots rows k row
-  clear row over below zero l = record { new = row; cleared = cleared_none p pivots rows row over; below = below }
-  clear row over below (suc k) l =
-      let w = clear row over below k (omega arith) in
+  take_off : (row : Cells) → IsRowOver p row → ColumnsBelow n row → (k : ℕ) → k ≤ length pivots → HasTakenOff p n pivots rows k row
+  take_off row over below zero l = record { new = row; over = over; taken = taken_none p pivots rows (entry row); below = below }
+  take_off row over below (suc k) l =
+      let w = take_off row over below k (omega arith) in
       let by : Cells = get_or rows k [] in
       let c : ℕ = (p - 1) * entry w.new (get_or pivots k 0) in
-      let z : k + 1 ≡ suc k = omega arith in
       let b : ColumnsBelow n by = row_below p n pivots rows k h (omega (arith, h.echelon.long)) in
       record {
         new = added p n c w.new by;
-        cleared = subst (λ i. IsCleared p pivots rows i row (added p n c w.new by)) z
-            (cleared_more p pivots rows k row w.new (added p n c w.new by) h.echelon (omega arith) w.cleared (cells-over p n (λ j. entry w.new j + c * entry by j) pos)
+        over = cells-over p n (λ j. entry w.new j + c * entry by j) pos;
+        taken = taken_more p pivots rows (first_places k) k (entry row) (entry w.new) (entry (added p n c w.new by)) h.echelon
+            (λ m lm. let lk : m < k = omega (arith, lm, length-first_places k) in subst (λ i. i < length pivots) (sym (place-first_places k m lk)) (omega arith)) (omega arith) w.taken
             (cleared_at p (get_or pivots k 0) c (entry by) (entry w.new) (entry (added p n c w.new by)) (cancels p (entry w.new (get_or pivots k 0)) pos)
-            (entry-added p n c w.new by w.below b)));
+            (entry-added p n c w.new by w.below b));
         below = cells-below p n (λ j. entry w.new j + c * entry by j);
       }
+
+  -- all kept rows have been taken off
+  cleared-of : (row : Cells) (w : HasTakenOff p n pivots rows (length pivots) row) → IsCleared p pivots rows row w.new
+  cleared-of row w = record {
+    residues = w.over;
+    differs = w.taken.differs;
+    zero_at = λ l lt. subst (λ i. entry w.new (get_or pivots i 0) % p ≡ 0) (place-first_places (length pivots) l lt) (w.taken.zero_at l (omega (arith, lt, length-first_places (length pivots))));
+  }
 
   -- the kept rows, cleared at a column
   abbrev cleared_rows : ℕ → Cells → List Cells
@@ -84,7 +112,7 @@ module _ (p : ℕ) (prime : IsInTable p) (n : ℕ) (pivots : List ℕ) (rows : L
   }
 
   -- a cleared row that is not zero gives a pivot
-  pivot-from : (row w : Cells) (c x : ℕ) → IsCleared p pivots rows (length pivots) row w → ColumnsBelow n w → LeadsWith w (c, x) → x < p → HasPivot p pivots rows row
+  pivot-from : (row w : Cells) (c x : ℕ) → IsCleared p pivots rows row w → ColumnsBelow n w → LeadsWith w (c, x) → x < p → HasPivot p pivots rows row
   pivot-from row w c x d b lead l =
       let non : x ≢ 0 = lead.nonzero in
       let i = IsUnit-below_prime p x (IsPrime-from_table p prime) (omega arith) l in
@@ -99,12 +127,12 @@ module _ (p : ℕ) (prime : IsInTable p) (n : ℕ) (pivots : List ℕ) (rows : L
 
   -- ONE MORE ROW is in the span, or gives a pivot
   pub offered-row : (row : Cells) → IsRowOver p row → ColumnsBelow n row → InSpan p (rows_of rows) (entry row) ⊎ HasPivot p pivots rows row
-  offered-row row over below = by_lead w.new w.cleared w.below
+  offered-row row over below = by_lead w.new (cleared-of row w) w.below
     where
-      w : HasCleared p n pivots rows (length pivots) row
-      w = clear row over below (length pivots) (omega arith)
+      w : HasTakenOff p n pivots rows (length pivots) row
+      w = take_off row over below (length pivots) (omega arith)
 
-      by_lead : (new : Cells) → IsCleared p pivots rows (length pivots) row new → ColumnsBelow n new → InSpan p (rows_of rows) (entry row) ⊎ HasPivot p pivots rows row
+      by_lead : (new : Cells) → IsCleared p pivots rows row new → ColumnsBelow n new → InSpan p (rows_of rows) (entry row) ⊎ HasPivot p pivots rows row
       by_lead [] d b = inl (dependent p pivots rows row d)
       by_lead (x ∷ xs) d b = inr (pivot-from row (x ∷ xs) x.0 x.1 d b (leads_first (x ∷ xs) (Some x) d.residues.row refl) (d.residues.residues 0 x (omega arith)))
 

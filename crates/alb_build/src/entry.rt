@@ -3,7 +3,6 @@ ghost use Rattle.std.specs.Prelude.{◌≡◌, ◌+◌, ◌<◌, ◌≤◌, ◌^
 ghost use Rattle.alb_rows.specs.Row.{IsRowOver, ColumnsBelow, LeadsWith};
 ghost use Rattle.alb_build.specs.Part.{AreFree, AreNumbers, IsNewEntry, AreNewEntries, IsPivotEntry, numbers_from};
 
-use crate::row::row_from_cells;
 use alb_block::Block;
 use alb_mono::NoMemory;
 use alb_rows::Row;
@@ -76,7 +75,7 @@ fn entry_at(
         None => Row::unit(alloc, numbers[k as usize], 1),
         Some(row) => {
             let cells = pivot_cells(alloc, field, row, numbers)?;
-            row_from_cells(alloc, field, &cells)
+            Ok(Row::from_cells(cells))
         }
     }
 }

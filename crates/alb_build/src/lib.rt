@@ -9,7 +9,6 @@ mod entry;
 mod growth;
 pub mod laws;
 mod part;
-mod row;
 mod step;
 mod stop;
 

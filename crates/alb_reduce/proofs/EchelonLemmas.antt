@@ -39,27 +39,6 @@ differs_more p f v w w' k c x d z e =
         regroup : (b r y : ℕ) → b + c * r + (x * r + y) ≡ (x + c) * r + (b + y)
         regroup b r y = omega arith
 
-pub cleared_none : (p : ℕ) (pivots : List ℕ) (rows : List Cells) (row : Cells) → IsRowOver p row → IsCleared p pivots rows 0 row row
-cleared_none p pivots rows row h =
-    record { residues = h; differs = differs_none p (rows_of rows) (entry row); zero_at = λ l lt. absurd (omega arith) }
-
-pub cleared_more : (p : ℕ) (pivots : List ℕ) (rows : List Cells) (k : ℕ) (row w w' : Cells) → IsEchelon p pivots rows → k < length pivots
-    → IsCleared p pivots rows k row w → IsRowOver p w' → IsClearedAt p (get_or pivots k 0) (rows_of rows k) (entry w) (entry w') → IsCleared p pivots rows (k + 1) row w'
-cleared_more p pivots rows k row w w' h lk d residues at =
-    let c : ℕ = at.factor in
-    record {
-      residues = residues;
-      differs = differs_more p (rows_of rows) (entry row) (entry w) (entry w') k c (entry w (get_or pivots k 0)) d.differs at.cancels at.entries;
-      zero_at = λ l lt. elim (cases_eq l k) [
-        | inl eq ↦ rw eq
-            (at.entries (get_or pivots k 0)
-            ∙ mod_add p _ _ (c * rows_of rows k (get_or pivots k 0)) c refl (mul_one_right p c _ (h.diagonal.one k lk)) ∙ at.cancels)
-        | inr ne ↦
-            at.entries (get_or pivots l 0)
-            ∙ add_zeros p _ _ (d.zero_at l (omega arith)) (mul_zero_right p c _ (h.diagonal.others k l lk (omega arith) (λ e. ne (sym e))))
-      ];
-    }
-
 -- nothing is added where the entry is 0
 pub cleared_at_zero : (p column : ℕ) (by v : ℕ → ℕ) → v column ≡ 0 → IsClearedAt p column by v v
 cleared_at_zero p column by v z =
@@ -194,19 +173,19 @@ span_grown p n i x c row row' g orig w r pos d scaled inverse first later cleare
 -- ---- the clauses of offer and reduce
 
 -- an element of the span that has been cleared is zero
-pub cleared_zero : (p : ℕ) (pivots : List ℕ) (rows : List Cells) (row w : Cells) → 0 < p → IsEchelon p pivots rows → IsCleared p pivots rows (length pivots) row w
+pub cleared_zero : (p : ℕ) (pivots : List ℕ) (rows : List Cells) (row w : Cells) → 0 < p → IsEchelon p pivots rows → IsCleared p pivots rows row w
     → InSpan p (rows_of rows) (entry row) → (j : ℕ) → entry w j % p ≡ 0
 cleared_zero p pivots rows row w pos h d s =
     diagonal_zero p (length pivots) (λ k. get_or pivots k 0) (rows_of rows) (entry w) h.diagonal
     (span_part p (rows_of rows) (entry row) (entry w) d.differs.difference pos s d.differs.in_span d.differs.sum) d.zero_at
 
 -- a cleared row that is zero was in the span
-pub dependent : (p : ℕ) (pivots : List ℕ) (rows : List Cells) (row : Cells) → IsCleared p pivots rows (length pivots) row [] → InSpan p (rows_of rows) (entry row)
+pub dependent : (p : ℕ) (pivots : List ℕ) (rows : List Cells) (row : Cells) → IsCleared p pivots rows row [] → InSpan p (rows_of rows) (entry row)
 dependent p pivots rows row d =
     span_same p (rows_of rows) d.differs.difference (entry row) (λ j. sym (d.differs.sum j ∙ ap (λ x. x % p) (omega arith))) d.differs.in_span
 
 -- a cleared row is 0 at each pivot of the span
-pub cleared_at_pivots : (p : ℕ) (pivots : List ℕ) (rows : List Cells) (row w : Cells) (c : ℕ) → 0 < p → IsEchelon p pivots rows → IsCleared p pivots rows (length pivots) row w
+pub cleared_at_pivots : (p : ℕ) (pivots : List ℕ) (rows : List Cells) (row w : Cells) (c : ℕ) → 0 < p → IsEchelon p pivots rows → IsCleared p pivots rows row w
     → IsPivot p (rows_of rows) c → entry w c ≡ 0
 cleared_at_pivots p pivots rows row w c pos h d is =
     let k = diagonal_all p (length pivots) (λ k. get_or pivots k 0) (rows_of rows) c h.diagonal is in
@@ -214,7 +193,7 @@ cleared_at_pivots p pivots rows row w c pos h d is =
     sym (mod-eq_of_lt (entry_residue p w c pos d.residues.row d.residues.residues)) ∙ zero
 
 pub new_pivot : (p : ℕ) (pivots : List ℕ) (rows : List Cells) (row w r : Cells) (c x i : ℕ) (cleared : List Cells) → IsEchelon p pivots rows
-    → IsCleared p pivots rows (length pivots) row w → LeadsWith w (c, x) → (x * i) % p ≡ 1 → ((j : ℕ) → entry r j ≡ (i * entry w j) % p) → IsRowOver p r
+    → IsCleared p pivots rows row w → LeadsWith w (c, x) → (x * i) % p ≡ 1 → ((j : ℕ) → entry r j ≡ (i * entry w j) % p) → IsRowOver p r
     → AreClearedAt p c r rows cleared (length rows) → NewPivot p pivots rows row c (cleared ++ r ∷ [])
 new_pivot p pivots rows row w r c x i cleared h d lead inverse scaled residues a =
     record {
@@ -419,15 +398,6 @@ ascending_more order n ps a has =
 
     old : (k : ℕ) → k < length ps → get_or (ps ++ n ∷ []) k 0 ≡ get_or ps k 0
     old k l = get_or_append_left ps (n ∷ []) 0 k l
-
--- what `contains` answers at numbers
-pub contains_true : (xs : List ℕ) (n : ℕ) (r : Bool) → IsAnyAnswer (λ y b. eqb y n ≡ b) xs r → r ≡ true → Contains xs n
-contains_true xs n true a e = (a.0, a.1, eqb-true _ n (a.2 n))
-contains_true xs n false a e = cc
-
-pub contains_false : (xs : List ℕ) (n : ℕ) (r : Bool) → IsAnyAnswer (λ y b. eqb y n ≡ b) xs r → r ≡ false → Contains xs n → ⊥
-contains_false xs n true a e w = cc
-contains_false xs n false a e w = eqb-false _ n (a w.0 n (omega arith) w.1) w.2
 
 -- ---- the columns
 

@@ -23,7 +23,7 @@ zero_entry : (p : ℕ) (xs : Cells) (j : ℕ) → 0 < p → IsRowOver p xs → e
 zero_entry p xs j pos h z = sym (mod-eq_of_lt (entry_residue p xs j pos h.row h.residues)) ∙ z
 
 pub reduced_below : (p columns : ℕ) (pivots : List ℕ) (rows : List Cells) (row w : Cells) → IsKept p columns pivots rows → ColumnsBelow columns row →
-    IsCleared p pivots rows (length pivots) row w → ColumnsBelow columns w
+    IsCleared p pivots rows row w → ColumnsBelow columns w
 reduced_below p columns pivots rows row w h narrow d =
     below_from_entries columns w d.residues.row (λ j le. zero_entry p w j (positive h.echelon.above) d.residues
     (sym (add_zero_right p (entry w j) (d.differs.difference j) (span_zero_at p (rows_of rows) d.differs.difference j d.differs.in_span (λ k. h.narrow k j le)))

@@ -21,11 +21,33 @@ pub record IsEchelon (p : ℕ) (pivots : List ℕ) (rows : List Cells) : Type 0 
   pub residues : All (IsRowOver p) rows
   pub diagonal : IsDiagonal p (length pivots) (slice_index pivots) (rows_of rows)
 
--- the row where the first k kept rows have been taken off
-pub record IsCleared (p : ℕ) (pivots : List ℕ) (rows : List Cells) (k : ℕ) (row new : Cells) : Type 0 where
+-- the row where all kept rows have been taken off
+pub record IsCleared (p : ℕ) (pivots : List ℕ) (rows : List Cells) (row new : Cells) : Type 0 where
   pub residues : IsRowOver p new
   pub differs : DiffersBySpan p (rows_of rows) (entry row) (entry new)
-  pub zero_at : (l : ℕ) → l < k → entry new (slice_index pivots l) % p ≡ 0
+  pub zero_at : (l : ℕ) → l < length pivots → entry new (slice_index pivots l) % p ≡ 0
+
+-- for each column the place of its pivot and 1, or 0 where it is no pivot
+pub record IsIndex (pivots places : List ℕ) : Type 0 where
+  pub found : (k : ℕ) → k < length pivots → slice_index places (slice_index pivots k) ≡ k + 1
+  pub from : (c k : ℕ) → slice_index places c ≡ k + 1 → (k < length pivots) × (slice_index pivots k ≡ c)
+
+-- n stands at c, and the other numbers are as they were
+pub record PutsAt (old new : List ℕ) (c n : ℕ) : Type 0 where
+  pub here : slice_index new c ≡ n
+  pub others : (j : ℕ) → j ≢ c → slice_index new j ≡ slice_index old j
+
+-- the places of the pivots that are columns of the cells
+pub record AreHits (pivots : List ℕ) (cells : Cells) (hits : List ℕ) : Type 0 where
+  pub within : (m : ℕ) → m < length hits → slice_index hits m < length pivots
+  pub all : (k i : ℕ) → k < length pivots → i < length cells → (slice_index_or cells i (0, 0)).0 ≡ slice_index pivots k
+      → (m : ℕ) × (m < length hits) × (slice_index hits m ≡ k)
+
+-- the row where the kept rows at some places have been taken off
+pub record AreTakenOff (p : ℕ) (pivots : List ℕ) (rows : List Cells) (hits : List ℕ) (row new : ℕ → ℕ) : Type 0 where
+  pub differs : DiffersBySpan p (rows_of rows) row new
+  pub zero_at : (m : ℕ) → m < length hits → new (slice_index pivots (slice_index hits m)) % p ≡ 0
+  pub zero_stays : (k : ℕ) → k < length pivots → row (slice_index pivots k) % p ≡ 0 → new (slice_index pivots k) % p ≡ 0
 
 -- a multiple of `by` has been added, which is 1 at the column, so that the new vector is 0 there
 pub record IsClearedAt (p column : ℕ) (by old new : ℕ → ℕ) : Type 0 where

@@ -38,13 +38,13 @@ pub struct Echelon {
 
 impl Model for Echelon {
     ghost use Rattle.alb_reduce.specs.Reduction.{Reduction};
-    ghost use Rattle.alb_reduce.specs.Echelon.{IsState};
+    ghost use Rattle.alb_reduce.specs.Echelon.{IsState, IsIndex};
 
     ghost Value = { Reduction };
 
     ghost view = { λ e. record { p = e.field; columns = e.columns; rows = e.kept.rows.items; tags = e.tags.items; keeps_recipes = e.keep_recipes; offers = e.offers.items } };
 
-    ghost invariant = { λ e. IsState e.field e.columns e.keep_recipes e.kept.pivots.items e.kept.rows.items e.kept.recipes.items e.offers.items };
+    ghost invariant = { λ e. record { state : IsState e.field e.columns e.keep_recipes e.kept.pivots.items e.kept.rows.items e.kept.recipes.items e.offers.items; index : IsIndex e.kept.pivots.items e.kept.places.items } };
 }
 
 impl Echelon {
@@ -62,6 +62,7 @@ impl Echelon {
                 pivots: Vec::new(alloc),
                 rows: Vec::new(alloc),
                 recipes: Vec::new(alloc),
+                places: Vec::new(alloc),
             },
             tags: Vec::new(alloc),
             offers: Vec::new(alloc),
@@ -154,7 +155,7 @@ impl Echelon {
             offers,
         } = self;
         let alloc = *kept.rows.allocator();
-        let pivots = ascending(alloc, &kept.pivots, columns)?;
+        let pivots = ascending(alloc, &kept.places, columns)?;
         let recipes = all_items(alloc, &kept.recipes)?;
         Ok(Reduced {
             field,
@@ -162,6 +163,7 @@ impl Echelon {
             keep_recipes,
             pivots,
             order: kept.pivots,
+            places: kept.places,
             rows: kept.rows,
             recipes,
             tags,

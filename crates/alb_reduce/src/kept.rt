@@ -8,4 +8,6 @@ pub(crate) struct Kept {
     pub(crate) rows: Vec<Row>,
     // Of each row its recipe, a row over tags; zero rows where recipes are not kept.
     pub(crate) recipes: Vec<Row>,
+    // Of each column the place of its pivot and 1, or 0 where it is no pivot. Columns past the end are none.
+    pub(crate) places: Vec<usize>,
 }

@@ -9,6 +9,7 @@ mod echelon;
 mod kept;
 pub mod laws;
 mod order;
+mod places;
 mod recipes;
 mod reduced;
 mod steps;

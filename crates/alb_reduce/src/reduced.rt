@@ -4,7 +4,7 @@ ghost use Rattle.alb_rows.specs.Row.{ColumnsBelow, entry, IsRowOver, LeadsWith};
 ghost use Rattle.alb_rows.specs.Span.{ArePivots, IsPivot, IsReducedRow};
 ghost use Rattle.alb_reduce.specs.Reduction.{IsRecipe, kept};
 
-use crate::order::place_of;
+use crate::places::place_of;
 use alb_rows::Row;
 use gf_field::{Field, Residue};
 use std::marker::Model;
@@ -18,6 +18,7 @@ pub struct Reduced {
     pub(crate) keep_recipes: bool,
     pub(crate) pivots: Vec<u32>,
     pub(crate) order: Vec<u32>,
+    pub(crate) places: Vec<usize>,
     pub(crate) rows: Vec<Row>,
     pub(crate) recipes: Vec<Vec<(Residue, u32)>>,
     pub(crate) tags: Vec<u32>,
@@ -27,13 +28,13 @@ pub struct Reduced {
 impl Model for Reduced {
     ghost use Rattle.std.specs.Prelude.{map};
     ghost use Rattle.alb_reduce.specs.Reduction.{Reduction};
-    ghost use Rattle.alb_reduce.specs.Echelon.{IsForm};
+    ghost use Rattle.alb_reduce.specs.Echelon.{IsForm, IsIndex};
 
     ghost Value = { Reduction };
 
     ghost view = { λ e. record { p = e.field; columns = e.columns; rows = e.rows.items; tags = e.tags.items; keeps_recipes = e.keep_recipes; offers = e.offers.items } };
 
-    ghost invariant = { λ e. IsForm e.field e.columns e.keep_recipes e.pivots.items e.order.items e.rows.items (map (λ v. v.items) e.recipes.items) e.offers.items };
+    ghost invariant = { λ e. record { form : IsForm e.field e.columns e.keep_recipes e.pivots.items e.order.items e.rows.items (map (λ v. v.items) e.recipes.items) e.offers.items; index : IsIndex e.order.items e.places.items } };
 }
 
 impl Reduced {
@@ -60,7 +61,7 @@ impl Reduced {
         ensures row { IfSome result (λ r. IsRowOver self.now.p r.now) }
         ensures columns { IfSome result (λ r. ColumnsBelow self.now.columns r.now) }
     {
-        match place_of(&self.order, column) {
+        match place_of(&self.places, column) {
             None => None,
             Some(k) => Some(&self.rows[k]),
         }
@@ -75,7 +76,7 @@ impl Reduced {
         if !self.keep_recipes {
             return None;
         }
-        match place_of(&self.order, column) {
+        match place_of(&self.places, column) {
             None => None,
             Some(k) => Some(&self.recipes[k]),
         }

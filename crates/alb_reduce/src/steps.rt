@@ -2,9 +2,10 @@
 ghost use Rattle.std.specs.Prelude.{◌≡◌, ℕ, ◌<◌, ◌++◌, [], ◌∷◌, length, OnOk};
 ghost use Rattle.std.specs.List.{All};
 ghost use Rattle.alb_rows.specs.Row.{Cells, entry, IsRowOver, LeadsWith};
-ghost use Rattle.alb_reduce.specs.Echelon.{Agrees, AllAgree, AreClearedAt, IsCleared, IsClearedAt, IsEchelon, NewPivot, RecipesFollow};
+ghost use Rattle.alb_reduce.specs.Echelon.{Agrees, AllAgree, AreClearedAt, IsCleared, IsClearedAt, IsEchelon, IsIndex, NewPivot, RecipesFollow};
 
 use crate::kept::Kept;
+use crate::places::{hits_of, put_place};
 use alb_mono::NoMemory;
 use alb_rows::Row;
 use gf_field::{Field, Residue};
@@ -37,7 +38,7 @@ fn take_off(
     Ok(())
 }
 
-// Takes off the kept rows, so that the row is 0 at their pivots.
+// Takes off the kept rows, so that the row is 0 at their pivots. Only the pivots at which it is not 0 are looked at.
 pub(crate) fn clear(
     field: &Field,
     kept: &Kept,
@@ -45,16 +46,19 @@ pub(crate) fn clear(
     recipe: &mut Row,
 ) -> Result<(), NoMemory>
     requires kept { IsEchelon field.now kept.now.pivots.items kept.now.rows.items }
+    requires index { IsIndex kept.now.pivots.items kept.now.places.items }
     requires recipes_in { All (IsRowOver field.now) kept.now.recipes.items }
     requires long { length kept.now.recipes.items ≡ length kept.now.rows.items }
     requires row_in { IsRowOver field.now row.old }
     requires recipe_in { IsRowOver field.now recipe.old }
-    ensures cleared { OnOk result (IsCleared field.now kept.now.pivots.items kept.now.rows.items (length kept.now.pivots.items) row.old row.new) }
+    ensures cleared { OnOk result (IsCleared field.now kept.now.pivots.items kept.now.rows.items row.old row.new) }
     ensures recipe_residues { OnOk result (IsRowOver field.now recipe.new) }
     ensures agrees { OnOk result ((w u : ℕ → ℕ) → AllAgree field.now w u kept.now.recipes.items kept.now.rows.items → Agrees field.now w u recipe.old row.old
         → Agrees field.now w u recipe.new row.new) }
 {
-    for k in 0..kept.pivots.len() {
+    let hits = hits_of(*kept.rows.allocator(), &kept.places, row.cells())?;
+    for place in &hits {
+        let k = *place;
         take_off(
             field,
             kept.pivots[k],
@@ -99,6 +103,7 @@ pub(crate) fn add_pivot(
     kept: &mut Kept,
 ) -> Result<(), NoMemory>
     requires kept { IsEchelon field.now kept.old.pivots.items kept.old.rows.items }
+    requires index { IsIndex kept.old.pivots.items kept.old.places.items }
     requires recipes_in { All (IsRowOver field.now) kept.old.recipes.items }
     requires long { length kept.old.recipes.items ≡ length kept.old.rows.items }
     requires lead_is { LeadsWith row lead }
@@ -106,7 +111,9 @@ pub(crate) fn add_pivot(
     requires row_in { IsRowOver field.now row }
     requires recipe_in { IsRowOver field.now recipe }
     ensures pivots { OnOk result (kept.new.pivots.items ≡ kept.old.pivots.items ++ lead.0 ∷ []) }
-    ensures rows { OnOk result ((old : Cells) → IsCleared field.now kept.old.pivots.items kept.old.rows.items (length kept.old.pivots.items) old row
+    ensures index { OnOk result ((old : Cells) → IsCleared field.now kept.old.pivots.items kept.old.rows.items old row
+        → IsIndex kept.new.pivots.items kept.new.places.items) }
+    ensures rows { OnOk result ((old : Cells) → IsCleared field.now kept.old.pivots.items kept.old.rows.items old row
         → NewPivot field.now kept.old.pivots.items kept.old.rows.items old lead.0 kept.new.rows.items) }
     ensures recipes_long { OnOk result (length kept.new.recipes.items ≡ length kept.new.rows.items) }
     ensures recipes_residues { OnOk result (All (IsRowOver field.now) kept.new.recipes.items) }
@@ -126,6 +133,7 @@ pub(crate) fn add_pivot(
         &mut kept.rows,
         &mut kept.recipes,
     )?;
+    put_place(&mut kept.places, column, kept.pivots.len())?;
     kept.rows.push(row)?;
     kept.recipes.push(recipe)?;
     kept.pivots.push(column)?;

@@ -4,13 +4,14 @@ use Rattle.std.specs.List.{All}
 use Rattle.std.proofs.lemmas.List.{take_more, get_or-map, length-map, length-take-le, drop_more, get_or_at, set_at, map_more, append_assoc, take_at, get_or_default}
 use Rattle.std.proofs.lemmas.Nat.{mod_below}
 use Rattle.std.proofs.lemmas.List.Elements.{All-push}
-use Rattle.std.proofs.Math.Nat.{add-mod-mod}
+use Rattle.std.proofs.lemmas.List.Quantifiers.{all_pairs_push}
+use Rattle.std.proofs.Math.Nat.{add-mod-mod, mod-mod, mod-eq_of_lt}
 use Rattle.std.proofs.Math.Seq.{take-length}
 use Rattle.std.proofs.lemmas.Bool.{cases_eq, cases_lt, cases_order, eqb-true, eq-eqb, ne_eqb}
 use Rattle.gf_sums.specs.Sums.{Comb, coefficient, scale, Tells}
 use Rattle.gf_sums.proofs.Totals.{total-append, weigh-scale, coefficient-weigh}
 use Rattle.alb_rows.specs.Row.{Cells, comb, entry, AreSameVector, ColumnsBelow, AreResidues, IsRow, IsRowOver, LeadsWith}
-use Rattle.alb_rows.specs.Merge.{at_column, NextFrom, AddsAt, Merged, times_cells}
+use Rattle.alb_rows.specs.Merge.{at_column, NextFrom, AddsAt, IsAlone, IsShared, Merged, times_cells}
 use Rattle.std.specs.Prelude.{IfSome, Option, slice_get}
 use Rattle.gf_field.specs.Primes.{IsInTable}
 use Rattle.gf_field.specs.Modular.{IsSameMod}
@@ -97,11 +98,82 @@ merged_step p a c b i k i' k' out out' column x y value m le ta tb to e row resi
     there j ne =
         rw (other out out' value j ne to, other (take i a) (take i' a) x j ne ta, other (take k b) (take k' b) y j ne tb) (m.entries j)
 
--- the next column is not below the top
-pub top_le : (top column : ℕ) (a b : Cells) (i k : ℕ) → NextFrom top a i → NextFrom top b k
-    → ((i < length a × ((get_or a i (0, 0)).0 ≡ column)) ⊎ (k < length b × ((get_or b k (0, 0)).0 ≡ column))) → top ≤ column
-top_le top column a b i k na nb found =
-    elim found [ inl w ↦ subst (λ (n : ℕ). top ≤ n) w.1 (na w.0) | inr w ↦ subst (λ (n : ℕ). top ≤ n) w.1 (nb w.0) ]
+-- nothing is added where there is no cell
+adds_nothing : (xs : Cells) (column : ℕ) → AddsAt xs xs column 0
+adds_nothing xs column =
+    record {
+      entries = λ j. omega (arith, at_column-zero j);
+      below = λ h k d l. lt_step (h k d l);
+    }
+  where
+    at_column-zero : (j : ℕ) → at_column column 0 j ≡ 0
+    at_column-zero j = elim (cases_eq column j) [ inl e ↦ rw (← e) (at_column-same column 0) | inr ne ↦ at_column-other column 0 j ne ]
+
+    lt_step : {a b : ℕ} → a < b → a < b + 1
+    lt_step h = omega arith
+
+-- behind a cell of a row the columns are greater
+next_after : (xs : Cells) (i : ℕ) → IsRow xs → NextFrom ((get_or xs i (0, 0)).0 + 1) xs (i + 1)
+next_after xs i h l = omega (arith, h.ascending i (i + 1) (0, 0) (omega arith) l)
+
+residue_mod : (p x c : ℕ) → x < p → x ≡ (x + (c * 0) % p) % p
+residue_mod p x c l = sym (ap (λ n. (x + n) % p) (ap (λ n. n % p) (omega arith) ∙ mod-zero p) ∙ ap (λ n. n % p) (omega arith) ∙ mod-eq_of_lt l)
+  where
+    mod-zero : (q : ℕ) → 0 % q ≡ 0
+    mod-zero q = grind arith
+
+-- a cell of the left list alone
+pub merged_left : (p : ℕ) (a : Cells) (c : ℕ) (b : Cells) (i k : ℕ) (out out' : Cells) → IsRow a → AreResidues p a → Merged p a c b i k out → IsAlone a i b k
+    → AddsAt out out' (get_or a i (0, 0)).0 (get_or a i (0, 0)).1 → IsRow out' → AreResidues p out' → Merged p a c b (i + 1) k out'
+merged_left p a c b i k out out' row residues m alone adds row' residues' =
+    merged_step p a c b i k (i + 1) k out out' (get_or a i (0, 0)).0 (get_or a i (0, 0)).1 0 (get_or a i (0, 0)).1 m (m.a_next alone.within)
+    (adds_take a i _ _ alone.within refl refl) (adds_nothing (take k b) _) adds (residue_mod p _ c (residues i (0, 0) alone.within)) row' residues'
+    (next_after a i row) alone.before
+
+-- a cell of the right list alone
+pub merged_right : (p : ℕ) (a : Cells) (c : ℕ) (b : Cells) (i k value : ℕ) (out out' : Cells) → IsRow b → Merged p a c b i k out → IsAlone b k a i
+    → value ≡ (c * (get_or b k (0, 0)).1) % p → AddsAt out out' (get_or b k (0, 0)).0 value → IsRow out' → AreResidues p out' → Merged p a c b i (k + 1) out'
+merged_right p a c b i k value out out' row m alone e adds row' residues' =
+    merged_step p a c b i k i (k + 1) out out' (get_or b k (0, 0)).0 0 (get_or b k (0, 0)).1 value m (m.b_next alone.within)
+    (adds_nothing (take i a) _) (adds_take b k _ _ alone.within refl refl) adds (e ∙ sym (mod-mod _ p) ∙ ap (λ n. n % p) (omega arith)) row' residues'
+    alone.before (next_after b k row)
+
+-- two cells of one column
+pub merged_both : (p : ℕ) (a : Cells) (c : ℕ) (b : Cells) (i k y value : ℕ) (out out' : Cells) → IsRow a → IsRow b → Merged p a c b i k out → IsShared a i b k
+    → y ≡ (c * (get_or b k (0, 0)).1) % p → value ≡ ((get_or a i (0, 0)).1 + y) % p → AddsAt out out' (get_or b k (0, 0)).0 value → IsRow out' → AreResidues p out'
+    → Merged p a c b (i + 1) (k + 1) out'
+merged_both p a c b i k y value out out' a_row b_row m shared times e adds row' residues' =
+    merged_step p a c b i k (i + 1) (k + 1) out out' (get_or b k (0, 0)).0 (get_or a i (0, 0)).1 (get_or b k (0, 0)).1 value m (m.b_next shared.right)
+    (adds_take a i _ _ shared.left shared.same refl) (adds_take b k _ _ shared.right refl refl) adds (e ∙ ap (λ n. ((get_or a i (0, 0)).1 + n) % p) times) row' residues'
+    (subst (λ n. NextFrom (n + 1) a (i + 1)) shared.same (next_after a i a_row)) (next_after b k b_row)
+
+-- where the left list has only greater columns, or none
+pub alone_right : (a b : Cells) (i k : ℕ) → k < length b → NextFrom (get_or b k (0, 0)).0 a i → (i < length a → (get_or a i (0, 0)).0 ≢ (get_or b k (0, 0)).0) → IsAlone b k a i
+alone_right a b i k l before ne = record { within = l; before = λ h. (let g = before h in let n = ne h in omega arith) }
+
+-- where the right list has only greater columns, or none
+pub alone_left : (a b : Cells) (i k end : ℕ) → i < length a → (get_or a i (0, 0)).0 < end → (k < length b → end ≡ (get_or b k (0, 0)).0) → IsAlone a i b k
+alone_left a b i k end l before e = record { within = l; before = λ h. (let g = e h in omega arith) }
+
+row_push : (xs : Cells) (column value : ℕ) → IsRow xs → ColumnsBelow column xs → value ≢ 0 → IsRow (xs ++ (column, value) ∷ [])
+row_push xs column value h below ne =
+    record {
+      ascending = all_pairs_push (λ a b. a.0 < b.0) xs (column, value) h.ascending below;
+      nonzero = All-push (λ cell. cell.1 ≢ 0) xs (column, value) h.nonzero ne;
+    }
+
+-- a cell of the left list alone, as it is
+pub left_push : (p : ℕ) (a : Cells) (c : ℕ) (b : Cells) (i k : ℕ) (out : Cells) → IsRow a → AreResidues p a → Merged p a c b i k out → IsAlone a i b k
+    → Merged p a c b (i + 1) k (out ++ get_or a i (0, 0) ∷ [])
+left_push p a c b i k out row residues m alone =
+    let x : ℕ × ℕ = get_or a i (0, 0) in
+    let low : m.top ≤ x.0 = m.a_next alone.within in
+    merged_left p a c b i k out (out ++ x ∷ []) row residues m alone (adds_push out x.0 x.1)
+    (row_push out x.0 x.1 m.row (λ n d l. above (m.out_below n d l) low) (row.nonzero i (0, 0) alone.within))
+    (All-push (λ cell. cell.1 < p) out x m.residues (residues i (0, 0) alone.within))
+  where
+    above : {r s t : ℕ} → r < s → s ≤ t → r < t
+    above h g = omega arith
 
 -- the merge of all cells
 pub merged_all : (p : ℕ) (a : Cells) (c : ℕ) (b out a' b' : Cells) → a ≡ a' → b ≡ b' → Merged p a c b (length a) (length b) out →

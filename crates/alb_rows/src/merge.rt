@@ -1,7 +1,7 @@
 //! Loops over the cells of rows.
-ghost use Rattle.std.specs.Prelude.{◌≡◌, ℕ, ◌+◌, ◌-◌, ◌*◌, ◌%◌, ◌<◌, ◌≤◌, ◌≢◌, length, take, slice_index_or, OnOk, IfOk, ◌⊎◌};
+ghost use Rattle.std.specs.Prelude.{◌≡◌, ℕ, ◌+◌, ◌<◌, ◌≤◌, ◌≢◌, ◌^◌, length, slice_index_or, OnOk, IfOk};
 ghost use Rattle.alb_rows.specs.Row.{IsRow, AreResidues, ColumnsBelow};
-ghost use Rattle.alb_rows.specs.Merge.{NextFrom, AddsAt, Merged, times_cells};
+ghost use Rattle.alb_rows.specs.Merge.{AddsAt, Merged, NextFrom, times_cells};
 
 use alb_mono::NoMemory;
 use gf_field::{Field, Residue};
@@ -20,27 +20,6 @@ pub(crate) fn scale_cells(cells: &mut [(u32, Residue)], field: &Field, c: Residu
     }
 }
 
-// Takes the cell at `at` if it stands at the column, and gives its residue, or 0.
-fn take_cell(cells: &[(u32, Residue)], at: &mut usize, column: u32) -> Residue
-    requires row { IsRow cells.now }
-    requires within { at.old ≤ length cells.now }
-    requires next { NextFrom column cells.now at.old }
-    ensures within { at.new ≤ length cells.now }
-    ensures forward { at.old ≤ at.new }
-    ensures taken { at.old < length cells.now → (slice_index_or cells.now at.old (0, 0)).0 ≡ column → at.new ≡ at.old + 1 }
-    ensures adds { AddsAt (take at.old cells.now) (take at.new cells.now) column result }
-    ensures next { NextFrom (column + 1) cells.now at.new }
-    ensures residue { (p : ℕ) → 0 < p → AreResidues p cells.now → result < p }
-{
-    let i = *at;
-    if i < cells.len() && cells[i].0 == column {
-        *at = i + 1;
-        cells[i].1
-    } else {
-        0
-    }
-}
-
 // Adds a cell at the end, unless it is zero.
 fn push_cell(out: &mut Vec<(u32, Residue)>, column: u32, value: Residue) -> Result<(), NoMemory>
     requires row { IsRow out.old.items }
@@ -55,17 +34,71 @@ fn push_cell(out: &mut Vec<(u32, Residue)>, column: u32, value: Residue) -> Resu
     Ok(())
 }
 
-// The column of the next cell of the two lists.
-fn next_column(a: &[(u32, Residue)], i: usize, b: &[(u32, Residue)], k: usize) -> u32
-    requires { i < length a.now ⊎ k < length b.now }
-    ensures a_next { NextFrom result a.now i }
-    ensures b_next { NextFrom result b.now k }
-    ensures found { (i < length a.now × ((slice_index_or a.now i (0, 0)).0 ≡ result)) ⊎ (k < length b.now × ((slice_index_or b.now k (0, 0)).0 ≡ result)) }
+// The column at a place, and past the end a number above all columns.
+fn column_at(cells: &[(u32, Residue)], k: usize) -> u64
+    ensures within { k < length cells.now → result ≡ (slice_index_or cells.now k (0, 0)).0 }
+    ensures past { length cells.now ≤ k → result ≡ 2 ^ 32 }
 {
-    if k >= b.len() || (i < a.len() && a[i].0 <= b[k].0) {
-        a[i].0
+    if k < cells.len() {
+        u64::from(cells[k].0)
     } else {
-        b[k].0
+        1 << 32
+    }
+}
+
+// Takes the cells of the left list that stand before the next one of the right list.
+fn take_left(
+    a: &[(u32, Residue)],
+    i: &mut usize,
+    b: &[(u32, Residue)],
+    k: usize,
+    out: &mut Vec<(u32, Residue)>,
+) -> Result<(), NoMemory>
+    requires a_row { IsRow a.now }
+    requires within { i.old ≤ length a.now }
+    ensures within { i.new ≤ length a.now }
+    ensures all { OnOk result (length b.now ≤ k → i.new ≡ length a.now) }
+    ensures before { OnOk result (k < length b.now → NextFrom (slice_index_or b.now k (0, 0)).0 a.now i.new) }
+    ensures merged { OnOk result ((p c : ℕ) → AreResidues p a.now → Merged p a.now c b.now i.old k out.old.items → Merged p a.now c b.now i.new k out.new.items) }
+{
+    let end = column_at(b, k);
+    while *i < a.len() && u64::from(a[*i].0) < end {
+        out.push(a[*i])?;
+        *i += 1;
+    }
+    Ok(())
+}
+
+// Takes the next cell of the right list, with that of the left list where the column is the same.
+fn take_right(
+    field: &Field,
+    a: &[(u32, Residue)],
+    i: &mut usize,
+    c: Residue,
+    b: &[(u32, Residue)],
+    k: usize,
+    out: &mut Vec<(u32, Residue)>,
+) -> Result<(), NoMemory>
+    requires a_row { IsRow a.now }
+    requires b_row { IsRow b.now }
+    requires a_in { AreResidues field.now a.now }
+    requires b_in { AreResidues field.now b.now }
+    requires c_in { c < field.now }
+    requires a_within { i.old ≤ length a.now }
+    requires b_within { k < length b.now }
+    requires before { NextFrom (slice_index_or b.now k (0, 0)).0 a.now i.old }
+    requires merged { Merged field.now a.now c b.now i.old k out.old.items }
+    ensures within { i.new ≤ length a.now }
+    ensures merged { OnOk result (Merged field.now a.now c b.now i.new (k + 1) out.new.items) }
+{
+    let at = *i;
+    let (column, y) = b[k];
+    let y = field.mul(c, y);
+    if at < a.len() && a[at].0 == column {
+        *i = at + 1;
+        push_cell(out, column, field.add(a[at].1, y))
+    } else {
+        push_cell(out, column, y)
     }
 }
 
@@ -84,13 +117,12 @@ pub(crate) fn merged(
     requires c_in { c < field.now }
     ensures { IfOk result (λ out. Merged field.now a.now c b.now (length a.now) (length b.now) out.items) }
 {
-    let mut out = Vec::new(alloc);
-    let (mut i, mut k) = (0, 0);
-    while i < a.len() || k < b.len() {
-        let column = next_column(a, i, b, k);
-        let x = take_cell(a, &mut i, column);
-        let y = take_cell(b, &mut k, column);
-        push_cell(&mut out, column, field.add(x, field.mul(c, y)))?;
+    let mut out = Vec::with_capacity(alloc, a.len() + b.len())?;
+    let mut i = 0;
+    for k in 0..b.len() {
+        take_left(a, &mut i, b, k, &mut out)?;
+        take_right(field, a, &mut i, c, b, k, &mut out)?;
     }
+    take_left(a, &mut i, b, b.len(), &mut out)?;
     Ok(out)
 }

@@ -51,6 +51,14 @@ impl Row {
         Ok(Row { cells })
     }
 
+    /// The row with these cells, which have no residue 0 and ascend by column. They are moved.
+    pub fn from_cells(cells: Vec<(u32, Residue)>) -> Row
+        requires { IsRow cells.items }
+        ensures { result ≡ cells.items }
+    {
+        Row { cells }
+    }
+
     /// The same row in memory of its own.
     pub fn try_copy(&self, alloc: Global) -> Result<Row, NoMemory>
         ensures value { IfOk result (λ r. r ≡ self.now) }

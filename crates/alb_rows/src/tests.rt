@@ -27,7 +27,8 @@ fn reads_rows(rt: HostRuntime) -> Result<(), Fail> {
     let field = Field::of(251)?;
     let row = sum(alloc, &field, &[(7, 3), (2, 250), (7, 4), (5, 0), (2, 2)])?;
     let copy = row.try_copy(alloc)?;
-    for r in [&row, &copy] {
+    let made = Row::from_cells(vec![in alloc; (2, 1), (7, 7)]?);
+    for r in [&row, &copy, &made] {
         assert_eq!(rt; r.cells(), [(2, 1), (7, 7)].as_slice());
         assert_eq!(rt; (r.lead(), r.is_zero()), (Some((2, 1)), false));
         assert_eq!(rt;

@@ -163,31 +163,6 @@ pub cells_more : (sums : List ℕ) (old new : Cells) (k x : ℕ) → k < length 
 cells_more sums old new k x l e h n j =
     n j ∙ ap (λ m. m + (if k == j then x else 0)) (h j) ∙ ap (λ y. slice_index (take k sums) j + (if k == j then y else 0)) e ∙ rw add-one (sym (take-index sums k j l))
 
--- ---- halves
-
-scale_one : {p : ℕ} (f : Comb ℕ) → Alike p (scale 1 f) f
-scale_one f = equal _ _ (λ w. weigh-scale w 1 f ∙ omega arith)
-
-tail-whole : (k : ℕ) (cells : Cells) → take (length cells - k) (drop k cells) ≡ drop k cells
-tail-whole k cells = take_all (length cells - k) (drop k cells) (omega (arith, length-drop k cells))
-
-pub halves : (p k : ℕ) (cells front back new : Cells) → AreSameVector p (comb front) (comb (take k cells)) → AreSameVector p (comb back) (comb (take (length cells - k) (drop k cells))) →
-    AreSameVector p (comb new) (comb front ++ scale 1 (comb back)) → AreSameVector p (comb new) (comb cells)
-halves p k cells front back new a b n =
-    let s : comb (take k cells) ++ comb (drop k cells) ≡ comb cells = sym (map-append (λ c. (c.1, c.0)) (take k cells) (drop k cells)) ∙ ap comb (take-append-drop k cells) in
-    let f : AreSameVector p (comb back) (comb (drop k cells)) = subst (λ cs. AreSameVector p (comb back) (comb cs)) (tail-whole k cells) b in
-    subst (AreSameVector p (comb new)) s
-    (same-alike nat_eq told
-    (joined (vector_alike n) (append-alike (vector_alike a) (joined (scale_one (comb back)) (vector_alike f)))))
-
-pub below_front : (n k : ℕ) (cells : Cells) → ColumnsBelow n cells → ColumnsBelow n (take k cells)
-below_front n k cells h i d l =
-    let m : i < length cells = omega (arith, length-take k cells) in let j : i < k = omega (arith, length-take k cells) in rw (get_or-take k cells i d j) (h i d m)
-
-pub below_back : (n k : ℕ) (cells : Cells) → ColumnsBelow n cells → ColumnsBelow n (take (length cells - k) (drop k cells))
-below_back n k cells h =
-    subst (ColumnsBelow n) (sym (tail-whole k cells)) (λ i d l. let m : k + i < length cells = omega (arith, length-drop k cells) in rw (get_or-drop k cells i d) (h (k + i) d m))
-
 -- ---- the loop over the terms
 
 -- nothing has been added to zeros

@@ -6,7 +6,7 @@ ghost use Rattle.alb_mono.specs.Mono.{tree};
 ghost use Rattle.alb_mono.specs.Tree.{are_below};
 ghost use Rattle.alb_poly.specs.Rules.{form};
 ghost use Rattle.alb_linear.specs.Identity.{IsLinearized};
-ghost use Rattle.alb_rows.specs.Row.{comb, entry, AreResidues, AreSameVector, ColumnsBelow, IsRowOver};
+ghost use Rattle.alb_rows.specs.Row.{entry, AreResidues, ColumnsBelow, IsRow, IsRowOver};
 ghost use Rattle.alb_rows.specs.Merge.{AddsAt};
 ghost use Rattle.alb_table.specs.PartView.{elems};
 ghost use Rattle.alb_table.specs.Entry.{table_product};
@@ -20,7 +20,7 @@ use alb_mono::{Mono, NoMemory};
 use alb_poly::{Linear, Term};
 use alb_rows::Row;
 use alb_table::Tables;
-use gf_field::{Field, Residue};
+use gf_field::Residue;
 use std::alloc::Global;
 
 // The basis elements as vectors.
@@ -54,9 +54,10 @@ fn add_term(
     match &t.mono {
         Mono::Gen(_) => Ok(()),
         Mono::Prod(l, r) => {
-            let left = tables.value_at(alloc, l, rows)?;
-            let right = tables.value_at(alloc, r, rows)?;
-            add_outer(tables.field(), columns, sums, t.coef, &left, &right);
+            let left = tables.factor(alloc, l, rows)?;
+            let right = tables.factor(alloc, r, rows)?;
+            let (left, right) = (left.row(), right.row());
+            add_outer(tables.field(), columns, sums, t.coef, left, right);
             Ok(())
         }
     }
@@ -88,6 +89,9 @@ fn instance_sums(
 
 // Adds a cell at the end, unless it is zero.
 fn push_cell(cells: &mut Vec<(u32, Residue)>, column: u32, value: Residue) -> Result<(), NoMemory>
+    requires row { IsRow cells.old.items }
+    requires below { ColumnsBelow column cells.old.items }
+    ensures row { IsRow cells.new.items }
     ensures adds { OnOk result (AddsAt cells.old.items cells.new.items column value) }
     ensures residues { (p : ℕ) → value < p → AreResidues p cells.old.items → AreResidues p cells.new.items }
 {
@@ -100,6 +104,7 @@ fn push_cell(cells: &mut Vec<(u32, Residue)>, column: u32, value: Residue) -> Re
 // The cells of the residues that are not 0.
 fn cells_of(alloc: Global, sums: &[Residue]) -> Result<Vec<(u32, Residue)>, NoMemory>
     requires { length sums.now ≤ 4096 }
+    ensures row { IfOk result (λ v. IsRow v.items) }
     ensures entries { IfOk result (λ v. (j : ℕ) → entry v.items j ≡ slice_index sums.now j) }
     ensures columns { IfOk result (λ v. ColumnsBelow (length sums.now) v.items) }
     ensures residues { (p : ℕ) → All (λ y. y < p) sums.now → IfOk result (λ v. AreResidues p v.items) }
@@ -109,27 +114,6 @@ fn cells_of(alloc: Global, sums: &[Residue]) -> Result<Vec<(u32, Residue)>, NoMe
         push_cell(&mut cells, k as u32, sums[k])?;
     }
     Ok(cells)
-}
-
-// The sum of rows with one cell each. Halves are added, so that each cell is moved a few times only.
-fn sum_of(alloc: Global, field: &Field, cells: &[(u32, Residue)]) -> Result<Row, NoMemory>
-    requires { AreResidues field.now cells.now }
-    ensures value { IfOk result (λ r. AreSameVector field.now (comb r) (comb cells.now)) }
-    ensures row { IfOk result (λ r. IsRowOver field.now r) }
-    ensures columns { (n : ℕ) → ColumnsBelow n cells.now → IfOk result (λ r. ColumnsBelow n r) }
-{
-    if cells.len() == 0 {
-        return Ok(Row::new(alloc));
-    }
-    if cells.len() == 1 {
-        return Row::unit(alloc, cells[0].0, cells[0].1);
-    }
-    prove!(field.p() > 1);
-    let half = cells.len() / 2;
-    let mut row = sum_of(alloc, field, &cells[..half])?;
-    let rest = sum_of(alloc, field, &cells[half..])?;
-    row.add_scaled(field, 1, &rest)?;
-    Ok(row)
 }
 
 /// The value of an instance of `f` at basis elements over the columns: at each column the coefficient of its pair, in the sum
@@ -151,5 +135,5 @@ pub fn row_of(
     prove!(columns.len() <= 4096);
     let sums = instance_sums(alloc, tables, f, tuple, columns)?;
     let cells = cells_of(alloc, &sums)?;
-    sum_of(alloc, tables.field(), &cells)
+    Ok(Row::from_cells(cells))
 }

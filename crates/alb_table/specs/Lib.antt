@@ -14,3 +14,4 @@ pub mod Laws
 pub mod Limits
 pub mod RightTable
 pub mod End
+pub mod Held

@@ -8,6 +8,7 @@ mod count;
 mod end;
 mod find;
 mod grid;
+mod held;
 pub mod laws;
 mod part;
 mod store;
@@ -19,5 +20,6 @@ mod value;
 
 pub use end::BuildEnd;
 pub use grid::Grid;
+pub use held::Held;
 pub use part::{Elem, Origin, Part};
 pub use tables::Tables;

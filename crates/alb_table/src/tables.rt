@@ -12,8 +12,8 @@ ghost use Rattle.alb_table.specs.Table.{FactorsBelow, GeneratorBelow, IsTable, I
 
 use crate::build::{empty_store, first_parts, grown};
 use crate::count::{count_cells, count_entries};
-use crate::grid::Grid;
 use crate::find::{entry_in, find_part, range_of};
+use crate::grid::Grid;
 use crate::part::{Elem, Origin, Part};
 use crate::store::Store;
 use crate::stored::Stored;

@@ -8,8 +8,10 @@ ghost use Rattle.alb_poly.specs.Poly.{AreResidues};
 ghost use Rattle.alb_poly.specs.Algebra.{evaluate};
 ghost use Rattle.alb_table.specs.PartView.{elems};
 ghost use Rattle.alb_table.specs.Entry.{table_product};
+ghost use Rattle.alb_table.specs.Held.{cells_in};
 ghost use Rattle.alb_table.specs.Value.{IsVector, vectors, generator_vector, table_value, times_right};
 
+use crate::held::Held;
 use crate::tables::Tables;
 use alb_mono::{Mono, NoMemory};
 use alb_poly::Poly;
@@ -67,20 +69,35 @@ impl Tables {
         Ok(acc)
     }
 
-    /// The value of a monomial over positions in the table's algebra, where each position has a vector.
+    /// The value of a monomial over positions in the table's algebra, where each position has a vector. The value of a
+    /// position is lent.
+    pub fn factor<'a>(&self, alloc: Global, m: &Mono, rows: &'a [Row]) -> Result<Held<'a>, NoMemory>
+        requires vectors { Each (IsVector self.now.p (length (elems self.now.parts))) rows.now }
+        requires positions { IsTrue (are_below (length rows.now) (tree m.now)) }
+        ensures value { IfOk result (λ r. AreSameVector self.now.p (comb (cells_in r)) (evaluate (table_product self.now.parts) (vectors rows.now) (tree m.now))) }
+        ensures row { IfOk result (λ r. IsVector self.now.p (length (elems self.now.parts)) (cells_in r)) }
+    {
+        match m {
+            Mono::Gen(k) => Ok(Held::Lent(&rows[*k as usize])),
+            Mono::Prod(l, r) => {
+                let x = self.factor(alloc, l, rows)?;
+                let y = self.factor(alloc, r, rows)?;
+                let product = self.multiply(alloc, x.row(), y.row())?;
+                Ok(Held::Own(product))
+            }
+        }
+    }
+
+    /// The same as a row of its own.
     pub fn value_at(&self, alloc: Global, m: &Mono, rows: &[Row]) -> Result<Row, NoMemory>
         requires vectors { Each (IsVector self.now.p (length (elems self.now.parts))) rows.now }
         requires positions { IsTrue (are_below (length rows.now) (tree m.now)) }
         ensures value { IfOk result (λ r. AreSameVector self.now.p (comb r) (evaluate (table_product self.now.parts) (vectors rows.now) (tree m.now))) }
         ensures row { IfOk result (λ r. IsVector self.now.p (length (elems self.now.parts)) r) }
     {
-        match m {
-            Mono::Gen(k) => rows[*k as usize].try_copy(alloc),
-            Mono::Prod(l, r) => {
-                let x = self.value_at(alloc, l, rows)?;
-                let y = self.value_at(alloc, r, rows)?;
-                self.multiply(alloc, &x, &y)
-            }
+        match self.factor(alloc, m, rows)? {
+            Held::Lent(row) => row.try_copy(alloc),
+            Held::Own(row) => Ok(row),
         }
     }
 

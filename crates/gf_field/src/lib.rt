@@ -90,8 +90,13 @@ impl Field {
         ensures value { result ≡ (x + y) % self.now }
         ensures residue { result < self.now }
     {
-        let p = self.p;
-        ((x as u32 + y as u32) % p as u32) as u16
+        let p = self.p as u32;
+        let sum = x as u32 + y as u32;
+        if sum < p {
+            sum as u16
+        } else {
+            (sum - p) as u16
+        }
     }
 
     /// The difference modulo `p` of two residues: what `y` has to be added to, to give `x`.

@@ -7,7 +7,7 @@ use Rattle.alb_subst.specs.Sums.{HasEntries, instance_row}
 use Rattle.alb_block.specs.Asked.{setting}
 use Rattle.alb_block.specs.Instances.{Setting, IsInstance}
 use Rattle.alb_block.specs.Offers.{Lacks, HasMore, IsRowOf}
-use Rattle.alb_block.proofs.OfferLemmas.{form_item, item-form, row-of, lacks-less, before-more}
+use Rattle.alb_block.proofs.OfferLemmas.{form_item, item-form, row-of, lacks-less, before-more, before-next}
 use Rattle.alb_block.proofs.offers.offer_form.Goals as goal
 
 pub open-requires-clause-few : goal.open-requires-clause-few
@@ -35,3 +35,9 @@ loop-tuple-preserved c =
       before = before-more s c.loop-tuple.offers.echelon c.in_ok-offers.offers.echelon c.args.k (c.args.k, x) c.loop-tuple.invariant.before m;
       lacks = lacks-less s c.loop-tuple.offers.echelon c.in_ok-offers.offers.echelon c.args.k x c.next.new.self l m;
     }
+
+pub returns-clause-before : goal.returns-clause-before
+returns-clause-before c =
+    let s : Setting = setting c.args.rules.now c.args.tables.now c.args.t.now in
+    before-next s c.loop-tuple.offers.echelon c.args.k c.loop-tuple.invariant.before
+    (subst (Lacks s c.loop-tuple.offers.echelon c.args.k) c.in_default.ensures.none.0 c.loop-tuple.invariant.lacks)

@@ -1,4 +1,4 @@
-use Rattle.std.proofs.Common.{arith, ◌≡◌, ◌-◌, ◌∙◌, ◌∷◌, [], sym, subst, get_or, refl, length}
+use Rattle.std.proofs.Common.{rules, arith, ◌≡◌, ◌-◌, ◌∙◌, ◌∷◌, [], ap, sym, subst, get_or, refl, length, ◌≤◌}
 use Rattle.alb_rows.specs.Row.{IsRowOver, ColumnsBelow, Cells}
 use Rattle.alb_build.specs.Part.{IsNewEntry, IsPivotEntry}
 use Rattle.alb_build.proofs.EntryRows.{numbers-long, pivot-row, new-free, new-pivot, ok_from}
@@ -14,14 +14,12 @@ pivot_cells-requires-clause-columns c =
 pub pivot_cells-requires-clause-few : goal.pivot_cells-requires-clause-few
 pivot_cells-requires-clause-few c = omega (arith, c.len.ensures.few, c.len.ensures.value, numbers-long c.args.block.now.reduced _ c.args.numbers.now c.requires.numbers)
 
-pub row_from_cells-requires : goal.row_from_cells-requires
-row_from_cells-requires c =
-    let e : IsPivotEntry c.args.field.now c.args.numbers.now c.in-Some.row.now c.deref.result.now =
-    subst (IsPivotEntry c.args.field.now c.args.numbers.now c.in-Some.row.now) (sym c.deref.ensures.value) c.in_ok-cells-in-Some.ensures in
-    subst (λ p. IsRowOver p c.deref.result.now) c.requires.field
-    (pivot-row c.args.block.now.reduced (length c.args.block.now.columns) c.args.numbers.now _ c.in-Some.row.now c.deref.result.now c.requires.numbers c.in-Some.ensures.reduced
-    c.in-Some.ensures.leads c.in-Some.ensures.row (subst (λ n. ColumnsBelow n c.in-Some.row.now) c.requires.width c.in-Some.ensures.columns)
-    (subst (λ p. IsPivotEntry p c.args.numbers.now c.in-Some.row.now c.deref.result.now) (sym c.requires.field) e))
+pub from_cells-requires : goal.from_cells-requires
+from_cells-requires c =
+    let row = pivot-row c.args.block.now.reduced (length c.args.block.now.columns) c.args.numbers.now _ c.in-Some.row.now c.in_ok-cells-in-Some.cells.items c.requires.numbers
+    c.in-Some.ensures.reduced c.in-Some.ensures.leads c.in-Some.ensures.row (subst (λ n. ColumnsBelow n c.in-Some.row.now) c.requires.width c.in-Some.ensures.columns)
+    (subst (λ p. IsPivotEntry p c.args.numbers.now c.in-Some.row.now c.in_ok-cells-in-Some.cells.items) (sym c.requires.field) c.in_ok-cells-in-Some.ensures) in
+    row.row
 
 pub returns-in-None : goal.returns-in-None
 returns-in-None c =
@@ -34,10 +32,7 @@ pub returns-in_ok-cells-in-Some : goal.returns-in_ok-cells-in-Some
 returns-in_ok-cells-in-Some c =
     let n = numbers-long c.args.block.now.reduced _ c.args.numbers.now c.requires.numbers in
     let z : c.len.result - 1 - c.args.k ≡ length c.args.numbers.now - 1 - c.args.k = omega (arith, n, c.len.ensures.value) in
-    let e : IsPivotEntry c.args.field.now c.args.numbers.now c.in-Some.row.now c.deref.result.now =
-    subst (IsPivotEntry c.args.field.now c.args.numbers.now c.in-Some.row.now) (sym c.deref.ensures.value) c.in_ok-cells-in-Some.ensures in
-    ok_from c.row_from_cells.result (λ (r : Cells). r ≡ c.deref.result.now) (IsNewEntry c.args.block.now.reduced c.args.numbers.now c.args.k) c.row_from_cells.ensures
-    (λ r h. subst (IsNewEntry c.args.block.now.reduced c.args.numbers.now c.args.k) (sym h)
-    (new-pivot c.args.block.now.reduced (length c.args.numbers.now) c.args.numbers.now c.args.k (c.len.result - 1 - c.args.k) c.in-Some.row.now c.deref.result.now z
+    subst (IsNewEntry c.args.block.now.reduced c.args.numbers.now c.args.k) (sym c.from_cells.ensures)
+    (new-pivot c.args.block.now.reduced (length c.args.numbers.now) c.args.numbers.now c.args.k (c.len.result - 1 - c.args.k) c.in-Some.row.now c.in_ok-cells-in-Some.cells.items z
     (c.in-Some.ensures.exactly.0 refl) c.in-Some.ensures.reduced c.in-Some.ensures.leads c.in-Some.ensures.row c.in-Some.ensures.columns
-    (subst (λ p. IsPivotEntry p c.args.numbers.now c.in-Some.row.now c.deref.result.now) (sym c.requires.field) e)))
+    (subst (λ p. IsPivotEntry p c.args.numbers.now c.in-Some.row.now c.in_ok-cells-in-Some.cells.items) (sym c.requires.field) c.in_ok-cells-in-Some.ensures))

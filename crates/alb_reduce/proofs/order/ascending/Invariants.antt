@@ -1,5 +1,6 @@
-use Rattle.alb_reduce.specs.Echelon.{IsAscendingBelow}
+use Rattle.std.proofs.Common.{ℕ, List}
+use Rattle.alb_reduce.specs.Echelon.{IsAscendingBelow, IsIndex}
 use Rattle.alb_reduce.proofs.order.ascending.Given as goal
 
 abbrev pub invariant-loop-column : goal.invariant-loop-column
-invariant-loop-column l = IsAscendingBelow l.order l.column-counter l.pivots.items
+invariant-loop-column l = (order : List ℕ) → IsIndex order l.places → IsAscendingBelow order l.column l.pivots.items

@@ -1,16 +1,16 @@
-use Rattle.std.proofs.Common.{rules}
-use Rattle.alb_rows.proofs.RowLemmas.{merged_step, top_le}
+use Rattle.std.proofs.Common.{◌≡◌, ◌∙◌, refl, sym, subst, length, ℕ, arith}
+use Rattle.alb_rows.specs.Merge.{Merged}
 use Rattle.alb_rows.proofs.merge.merged.Goals as goal
 
-pub loop-i-preserved : goal.loop-i-preserved
-loop-i-preserved c =
-    let m = c.loop-i.invariant.2 in
-    let e = c.next_column-column.ensures in
-    let x = c.take_cell-x.ensures in
-    let y = c.take_cell-y.ensures in
-    let value = c.push_cell.ensures in (
-      x.within,
-      y.within,
-      merged_step _ _ _ _ _ _ _ _ _ _ _ _ _ _ m (top_le _ _ _ _ _ _ m.a_next m.b_next e.found) x.adds y.adds c.in_ok-push_cell.ensures.adds
-          (rw (c.add.ensures.value, c.mul.ensures.value)) value.row (value.residues _ (search rules) m.residues) x.next y.next,
-    )
+pub take_right-requires-clause-merged : goal.take_right-requires-clause-merged
+take_right-requires-clause-merged c = c.in_ok-take_left.ensures.merged c.args.field.now c.args.c c.requires.a_in c.loop-k.invariant.1
+
+pub returns : goal.returns
+returns c =
+    let end : c.loop-k.k ≡ length c.args.b.now = omega arith in
+    let taken = c.in_ok-take_left-2.ensures in
+    let all : c.take_left-2.new.i ≡ length c.args.a.now = taken.all (omega arith) in
+    let m : Merged c.args.field.now c.args.a.now c.args.c c.args.b.now c.loop-k.i (length c.args.b.now) c.loop-k.out.items =
+    subst (λ k. Merged c.args.field.now c.args.a.now c.args.c c.args.b.now c.loop-k.i k c.loop-k.out.items) end c.loop-k.invariant.1 in
+    subst (λ i. Merged c.args.field.now c.args.a.now c.args.c c.args.b.now i (length c.args.b.now) c.take_left-2.new.out.items) all
+    (taken.merged c.args.field.now c.args.c c.requires.a_in m)

@@ -1,31 +1,27 @@
 use Rattle.std.proofs.Common.{◌≡◌, ◌∙◌, subst, sym, refl, get_or, [], ◌<◌, length}
 use Rattle.std.proofs.lemmas.List.{get_or_default}
-use Rattle.std.proofs.lemmas.Result.{IfOk-weaker}
 use Rattle.std.proofs.lemmas.Bool.{ltb-true}
 use Rattle.alb_mono.proofs.ListingLemmas.{each-at}
 use Rattle.alb_rows.specs.Row.{Cells, comb}
 use Rattle.alb_table.specs.PartView.{elems}
 use Rattle.alb_table.specs.Value.{IsVector}
 use Rattle.alb_table.proofs.ValueLemmas.{product_value, same_lists}
-use Rattle.alb_table.proofs.tables.Tables.+value_at.Goals as goal
+use Rattle.alb_table.proofs.tables.Tables.+factor.Goals as goal
 
 pub returns-in-Gen-clause-value : goal.returns-in-Gen-clause-value
 returns-in-Gen-clause-value t c =
     let l : c.in-Gen.k < length c.args.rows.now = ltb-true c.in-Gen.k (length c.args.rows.now) (rw c.in-Gen.is at c.requires.positions) in
     let e : c.index-rows-k.result ≡ get_or c.args.rows.now c.in-Gen.k [] = c.index-rows-k.is ∙ get_or_default c.args.rows.now c.in-Gen.k c.index-rows-k.result [] l in
-    rw c.in-Gen.is (IfOk-weaker c.try_copy.result _ _ (λ r d. same_lists c.args.self.now.p (comb r) _ (let q : r ≡ get_or c.args.rows.now c.in-Gen.k [] = d ∙ e in subst (λ (x : Cells). comb r ≡ comb x) q refl)) c.try_copy.ensures.value)
+    rw c.in-Gen.is (same_lists c.args.self.now.p (comb c.index-rows-k.result) _ (subst (λ (x : Cells). comb c.index-rows-k.result ≡ comb x) e refl))
 
 pub returns-in-Gen-clause-row : goal.returns-in-Gen-clause-row
 returns-in-Gen-clause-row t c =
     let l : c.in-Gen.k < length c.args.rows.now = ltb-true c.in-Gen.k (length c.args.rows.now) (rw c.in-Gen.is at c.requires.positions) in
-    let v : IsVector c.args.self.now.p (length (elems c.args.self.now.parts)) c.index-rows-k.result =
     subst (IsVector c.args.self.now.p (length (elems c.args.self.now.parts))) (sym c.index-rows-k.is)
-    (each-at (IsVector c.args.self.now.p (length (elems c.args.self.now.parts))) c.args.rows.now c.in-Gen.k c.index-rows-k.result c.requires.vectors l) in
-    IfOk-weaker c.try_copy.result _ _ (λ r d. subst (IsVector c.args.self.now.p (length (elems c.args.self.now.parts))) (sym d) v) c.try_copy.ensures.value
+    (each-at (IsVector c.args.self.now.p (length (elems c.args.self.now.parts))) c.args.rows.now c.in-Gen.k c.index-rows-k.result c.requires.vectors l)
 
-pub returns-in_ok-y-in-Prod-clause-value : goal.returns-in_ok-y-in-Prod-clause-value
-returns-in_ok-y-in-Prod-clause-value t c =
+pub returns-in_ok-product-in-Prod-clause-value : goal.returns-in_ok-product-in-Prod-clause-value
+returns-in_ok-product-in-Prod-clause-value t c =
     rw c.in-Prod.is
-    (IfOk-weaker c.multiply.result _ _
-    (λ r d. product_value c.args.self.now.p _ _ _ r _ _ (rw c.deref.ensures at c.in_ok-x-in-Prod.ensures.value) (rw c.deref-in-Prod.ensures at c.in_ok-y-in-Prod.ensures.value) d)
-    c.multiply.ensures.value)
+    (product_value c.args.self.now.p _ _ _ c.in_ok-product-in-Prod.product _ _ (rw c.deref.ensures at c.in_ok-x-in-Prod.ensures.value) (rw c.deref-in-Prod.ensures at c.in_ok-y-in-Prod.ensures.value)
+    (rw (c.row.ensures, c.row-in-Prod.ensures) at c.in_ok-product-in-Prod.ensures.value))
