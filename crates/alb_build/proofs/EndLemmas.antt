@@ -1,11 +1,9 @@
 -- The building of tables ends at a right table.
-use Rattle.std.proofs.Common.{◌≡◌, ℕ, zero, suc, ◌+◌, ◌-◌, ◌^◌, ◌<◌, ◌≤◌, List, [], ◌∷◌, ◌++◌, length, refl, ap, ◌∙◌, arith, sum, length-append, inl, inr, ◌⊎◌}
+use Rattle.std.proofs.Common.{◌≡◌, ℕ, zero, suc, ◌+◌, ◌-◌, ◌^◌, ◌<◌, ◌≤◌, List, [], ◌∷◌, ◌++◌, length, refl, arith, sum, inl, inr, ◌⊎◌}
 use Rattle.std.specs.Prelude.{Option, Some, None, nat_lt}
 use Rattle.std.proofs.lemmas.Bool.{cases_Bool, cases_lt}
 use Rattle.std.proofs.lemmas.Bool.Decides.{nat_tests}
-use Rattle.std.proofs.lemmas.Grind.{flat_map-append}
 use Rattle.alb_mono.specs.Listing.{Each}
-use Rattle.alb_mono.specs.Types.{types_of}
 use Rattle.alb_mono.proofs.TypesListing.{types_of-listing}
 use Rattle.alb_poly.specs.Instance.{Form}
 use Rattle.alb_poly.specs.Consequence.{AreMultilinear}
@@ -14,14 +12,14 @@ use Rattle.alb_table.specs.Limits.{next_types, next_products, wide, most_of_type
 use Rattle.alb_table.specs.PartView.{PartView, elems}
 use Rattle.alb_table.specs.Right.{AreHigh}
 use Rattle.alb_table.specs.RightTable.{IsRightTable}
-use Rattle.alb_table.specs.Table.{Table, IsTable, IsTarget, count_products, count_coefficients, extended, first_parts, first_table, generator_view}
-use Rattle.alb_table.proofs.PartLemmas.{elems_step}
-use Rattle.alb_table.proofs.FirstLemmas.{first_is_table, first_few}
+use Rattle.alb_table.specs.Table.{Table, IsTable, count_coefficients, extended, first_table}
+use Rattle.alb_table.proofs.FirstLemmas.{few_generators, first_is_table}
 use Rattle.alb_table.proofs.FirstRight.{first-right-table}
 use Rattle.alb_build.specs.Laws.{HasEnd, EachEnds}
 use Rattle.alb_build.proofs.CellCounts.{coefficients-append}
 use Rattle.alb_build.proofs.Counts.{made-count}
-use Rattle.alb_build.proofs.Grown.{grown-products, grown-countable, grown-table, table-big, new-few}
+use Rattle.alb_build.proofs.Few.{right-few}
+use Rattle.alb_build.proofs.Grown.{grown-countable, grown-table, table-big, new-few}
 use Rattle.alb_build.proofs.MadeParts.{HasParts, parts-exist, made-few}
 use Rattle.alb_build.proofs.NextRight.{next-has}
 use Rattle.alb_build.proofs.NextTable.{next-table}
@@ -34,23 +32,18 @@ each-narrow t (w ∷ ws) e = elim (cases_Bool (nat_lt most_of_type (wide t w))) 
   | inr l ↦ (grind (arith, nat_tests), each-narrow t ws (rw l at e))
 ]
 
--- at most as many basis elements as products, but for the generators
-pub record IsThin (t : Table) : Type 0 where
-  pub few : length (elems t.parts) ≤ 12 + count_products t.parts
-
 -- the table of the next degree
 pub record HasNext (fs : List Form) (t : Table) : Type 0 where
   pub parts : List PartView
   pub table : IsTable (extended t parts)
   pub right : IsRightTable fs (extended t parts)
-  pub thin : IsThin (extended t parts)
 
 -- how the building ends at a table
 pub record EndsAt (fs : List Form) (t : Table) : Type 0 where
   pub end : End
   pub ends : IsEnd fs t end
 
-module _ (fs : List Form) (multi : AreMultilinear fs) (high : AreHigh fs) (t : Table) (tab : IsTable t) (right : IsRightTable fs t) (thin : IsThin t)
+module _ (fs : List Form) (multi : AreMultilinear fs) (high : AreHigh fs) (t : Table) (tab : IsTable t) (right : IsRightTable fs t)
     (room : t.degree < sum t.target) where
   -- the blocks of the next degree are there
   module _ (goes : first_wide t (next_types t) ≡ None) (few : next_products t ≤ most_products) (h : HasParts fs t (next_types t) (length (elems t.parts))) where
@@ -58,7 +51,7 @@ module _ (fs : List Form) (multi : AreMultilinear fs) (high : AreHigh fs) (t : T
     small =
         let a = made-few h.blocks h.parts (length (elems t.parts)) h.are_parts in
         let b = made-count fs t (next_types t) h.blocks h.parts (length (elems t.parts)) h.are_blocks h.are_parts in
-        omega (arith, thin.few)
+        omega (arith, right-few fs t tab right.right, few_generators t.target tab.goal)
 
     fits : length (elems t.parts) + length (elems h.parts) < 2 ^ 32
     fits = omega (arith, small)
@@ -69,13 +62,6 @@ module _ (fs : List Form) (multi : AreMultilinear fs) (high : AreHigh fs) (t : T
         let b = coefficients-append t.parts h.parts in
         let c : count_coefficients t.parts ≤ most_coefficients = right.limits.coefficients in
         omega arith
-
-    next-thin : IsThin (extended t h.parts)
-    next-thin =
-        let e : elems (t.parts ++ h.parts) ≡ elems t.parts ++ elems h.parts = flat_map-append (λ (q : PartView). q.basis) t.parts h.parts in
-        let n : length (elems (t.parts ++ h.parts)) ≡ length (elems t.parts) + length (elems h.parts) = ap length e ∙ length-append (elems t.parts) (elems h.parts) in
-        let p = grown-products fs t h.blocks h.parts (length (elems t.parts)) h.are_blocks h.are_parts in
-        record { few = omega (arith, small) }
 
     with-parts : EndsAt fs t ⊎ HasNext fs t
     with-parts = elim (cases_lt most_coefficients (count_coefficients (t.parts ++ h.parts))) [
@@ -96,7 +82,6 @@ module _ (fs : List Form) (multi : AreMultilinear fs) (high : AreHigh fs) (t : T
             parts = h.parts;
             table = longer;
             right = next-table fs t h.blocks h.parts tab longer multi high h.are_blocks h.are_parts right few l;
-            thin = next-thin;
           }))
     ]
 
@@ -112,8 +97,8 @@ module _ (fs : List Form) (multi : AreMultilinear fs) (high : AreHigh fs) (t : T
       ]
 
 -- the building ends, from a table that is k degrees below its target
-ends-from : (fs : List Form) → AreMultilinear fs → AreHigh fs → (k : ℕ) (t : Table) → t.degree + k ≡ sum t.target → IsTable t → IsRightTable fs t → IsThin t → HasEnd t.p t.target fs
-ends-from fs multi high zero t e tab right thin = record {
+ends-from : (fs : List Form) → AreMultilinear fs → AreHigh fs → (k : ℕ) (t : Table) → t.degree + k ≡ sum t.target → IsTable t → IsRightTable fs t → HasEnd t.p t.target fs
+ends-from fs multi high zero t e tab right = record {
   table = t;
   end = Complete;
   is_table = tab;
@@ -122,24 +107,14 @@ ends-from fs multi high zero t e tab right thin = record {
   right = right;
   ends = (let z : t.degree ≡ sum t.target = omega arith in z);
 }
-ends-from fs multi high (suc k) t e tab right thin = elim (next-or-end fs multi high t tab right thin (omega arith)) [
+ends-from fs multi high (suc k) t e tab right = elim (next-or-end fs multi high t tab right (omega arith)) [
   | inl h ↦ record { table = t; end = h.end; is_table = tab; field = refl; goal = refl; right = right; ends = h.ends }
-  | inr h ↦ ends-from fs multi high k (extended t h.parts) (omega arith) h.table h.right h.thin
+  | inr h ↦ ends-from fs multi high k (extended t h.parts) (omega arith) h.table h.right
 ]
-
--- the generators are few
-first-elems : (k : ℕ) (ts : List (List ℕ)) → length (elems (first_parts k ts)) ≡ length ts
-first-elems k [] = refl
-first-elems k (t ∷ ts) =
-    let e : length (elems (generator_view k t ∷ first_parts (suc k) ts)) ≡ 1 + length (elems (first_parts (suc k) ts)) = elems_step (generator_view k t) (first_parts (suc k) ts) in
-    omega (arith, first-elems (suc k) ts)
-
-first-thin : (p : ℕ) (target : List ℕ) → IsTarget target → IsThin (first_table p target)
-first-thin p target goal = record { few = omega (arith, first-elems 0 (types_of target 1), first_few target goal) }
 
 -- THE LAW
 pub each-ends : EachEnds
 each-ends p target fs prime goal multi high =
     let tab : IsTable (first_table p target) = first_is_table p target prime goal in
     let some : 0 < sum target = goal.some in
-    ends-from fs multi high (sum target - 1) (first_table p target) (omega arith) tab (first-right-table p target prime goal fs multi high) (first-thin p target goal)
+    ends-from fs multi high (sum target - 1) (first_table p target) (omega arith) tab (first-right-table p target prime goal fs multi high)

@@ -3,7 +3,7 @@ ghost use Rattle.std.specs.Prelude.{◌≡◌, ◌+◌, ◌<◌, ◌^◌, length
 ghost use Rattle.alb_mono.specs.Listing.{Each};
 ghost use Rattle.alb_table.specs.PartView.{part_view, elems};
 ghost use Rattle.alb_block.specs.View.{block_view};
-ghost use Rattle.alb_build.specs.Part.{elements_of, FitsBlock, ArePartsOf, IsPartMade};
+ghost use Rattle.alb_build.specs.Part.{elements_of, FitsBlock, ArePartsOf, IsPartMade, count_columns};
 
 use crate::entry::{entries_of, free_products, numbers_of};
 use alb_block::Block;
@@ -31,13 +31,10 @@ fn basis_of(alloc: Global, columns: &Columns, free: &[bool]) -> Result<Vec<Elem>
 
 // The part of a block, whose first basis element has the number `first`.
 fn part_of(alloc: Global, field: &Field, first: u32, block: Block) -> Result<Part, NoMemory>
-    requires { FitsBlock field.now (block_view block) }
-    ensures made { IfOk result (λ q. IsPartMade first (block_view block) (part_view q)) }
-    ensures small { IfOk result (λ q. first + length q.basis.items < 2 ^ 32) }
+    requires fits { FitsBlock field.now (block_view block) }
+    requires room { first + length block.columns < 2 ^ 32 }
+    ensures { IfOk result (λ q. IsPartMade first (block_view block) (part_view q)) }
 {
-    if block.columns.len() > u32::MAX - first {
-        return Err(NoMemory);
-    }
     let free = free_products(alloc, &block)?;
     let numbers = numbers_of(alloc, first, &free)?;
     let basis = basis_of(alloc, &block.columns, &free)?;
@@ -62,7 +59,8 @@ pub(crate) fn parts_of(
     tables: &Tables,
     blocks: Vec<Block>,
 ) -> Result<Vec<Part>, NoMemory>
-    requires { Each (FitsBlock tables.now.p) (map block_view blocks.items) }
+    requires fit { Each (FitsBlock tables.now.p) (map block_view blocks.items) }
+    requires room { length (elems tables.now.parts) + count_columns (map block_view blocks.items) < 2 ^ 32 }
     ensures made { IfOk result (λ v. ArePartsOf (length (elems tables.now.parts)) (map block_view blocks.items) (map part_view v.items)) }
     ensures small { IfOk result (λ v. length (elems tables.now.parts) + length (elems (map part_view v.items)) < 2 ^ 32) }
 {

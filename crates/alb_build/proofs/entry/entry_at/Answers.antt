@@ -1,5 +1,5 @@
-use Rattle.std.proofs.Common.{rules, arith, ◌≡◌, ◌-◌, ◌∙◌, ◌∷◌, [], ap, sym, subst, get_or, refl, length, ◌≤◌}
-use Rattle.alb_rows.specs.Row.{IsRowOver, ColumnsBelow, Cells}
+use Rattle.std.proofs.Common.{arith, ◌≡◌, ◌-◌, ◌∙◌, ◌∷◌, [], sym, subst, get_or, refl, length}
+use Rattle.alb_rows.specs.Row.{ColumnsBelow, Cells}
 use Rattle.alb_build.specs.Part.{IsNewEntry, IsPivotEntry}
 use Rattle.alb_build.proofs.EntryRows.{numbers-long, pivot-row, new-free, new-pivot, ok_from}
 use Rattle.alb_build.proofs.entry.entry_at.Goals as goal

@@ -10,6 +10,8 @@ use Rattle.alb_build.specs.Part.{count_columns}
 use Rattle.alb_build.proofs.First.{rules-multilinear}
 use Rattle.alb_build.proofs.CellCounts.{coefficients-append}
 use Rattle.alb_build.proofs.Counts.{columns-are, blocks-few, blocks-fit}
+use Rattle.alb_table.proofs.FirstLemmas.{few_generators}
+use Rattle.alb_build.proofs.Few.{right-few}
 use Rattle.alb_build.proofs.Grown.{made-types, grown-parts, grown-countable, grown-table, table-big, new-few}
 use Rattle.alb_build.proofs.NextRight.{next-has}
 use Rattle.alb_build.proofs.NextTable.{next-table}
@@ -39,8 +41,19 @@ returns-then-products-gt-MOST_PRODUCTS c =
     let y = c.count_products.ensures in
     record { number = omega arith; many = c.if-products-gt-MOST_PRODUCTS.true }
 
-pub parts_of-requires : goal.parts_of-requires
-parts_of-requires c = blocks-fit (forms c.args.rules.now) c.args.tables.now (next_types c.args.tables.now) (map block_view c.args.blocks.items) c.requires.blocks
+pub parts_of-requires-clause-fit : goal.parts_of-requires-clause-fit
+parts_of-requires-clause-fit c = blocks-fit (forms c.args.rules.now) c.args.tables.now (next_types c.args.tables.now) (map block_view c.args.blocks.items) c.requires.blocks
+
+pub parts_of-requires-clause-room : goal.parts_of-requires-clause-room
+parts_of-requires-clause-room c =
+    let t = c.degree.ensures.table in
+    let f = right-few (forms c.args.rules.now) c.args.tables.now t c.requires.right.right in
+    let n = few_generators c.args.tables.now.target t.goal in
+    let e = ap (λ (bs : List Block). count_columns (map block_view bs)) c.deref.ensures.value in
+    let u = c.products.ensures in
+    let v = c.count_products.ensures in
+    let z = c.if-products-gt-MOST_PRODUCTS.false in
+    omega arith
 
 pub count_part_cells-requires : goal.count_part_cells-requires
 count_part_cells-requires c =
