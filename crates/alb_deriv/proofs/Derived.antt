@@ -14,14 +14,14 @@ use Rattle.alb_poly.proofs.Parts.{each_at}
 use Rattle.alb_poly.proofs.Consequence.{consequence-instance, consequence-zero, consequence-append, consequence-scale, consequence-beside}
 use Rattle.alb_deriv.specs.Derivation.{Line, Instance, Times, Sum, earlier, line_value, line_values, fault, Fault, AreSound, is_no_place}
 
-none_if : (b : Bool) (x : Fault) (o : Option Fault) → (if b then Some x else o) ≡ None → (b ≡ false) × (o ≡ None)
+pub none_if : (b : Bool) (x : Fault) (o : Option Fault) → (if b then Some x else o) ≡ None → (b ≡ false) × (o ≡ None)
 none_if true x o h = absurd (cc)
 none_if false x o h = (refl, h)
 
 place_below : (n k : ℕ) → is_no_place n k ≡ false → k - 1 < n
 place_below n k h = grind (arith, nat_tests)
 
-count_same : (m n : ℕ) → not (m == n) ≡ false → m ≡ n
+pub count_same : (m n : ℕ) → not (m == n) ≡ false → m ≡ n
 count_same m n h = elim (cases_Bool (m == n)) [ inl e ↦ eqb-true m n e | inr e ↦ absurd (false≢true (sym (rw e at h))) ]
 
 module _ (p : ℕ) (target : List ℕ) (fs : List Form) where

@@ -81,14 +81,14 @@ pair_type target (Right, x) m = refl
 
 -- ---- terms that pass the target
 
-none-any : {X : Type 0} (q : X → Bool) (xs : List X) → list_any q xs ≡ false → Each (λ x. q x ≡ false) xs
+pub none-any : {X : Type 0} (q : X → Bool) (xs : List X) → list_any q xs ≡ false → Each (λ x. q x ≡ false) xs
 none-any q [] h = tt
 none-any q (x ∷ xs) h = elim (cases_Bool (q x)) [
   | inl e ↦ absurd (false≢true (sym (rw e at h)))
   | inr e ↦ (e, none-any q xs (rw e at h))
 ]
 
-any-none : {X : Type 0} (q : X → Bool) (xs : List X) → Each (λ x. q x ≡ false) xs → list_any q xs ≡ false
+pub any-none : {X : Type 0} (q : X → Bool) (xs : List X) → Each (λ x. q x ≡ false) xs → list_any q xs ≡ false
 any-none q [] h = refl
 any-none q (x ∷ xs) h = rw (h.0, any-none q xs h.1) refl
 
@@ -96,7 +96,7 @@ any-none q (x ∷ xs) h = rw (h.0, any-none q xs h.1) refl
 abbrev pub passes : List ℕ → Tree → Bool
 passes target m = not (type_le (type_of (length target) m) target)
 
-absent-or : (P : Tree → Type 0) (f : Poly) (m : Tree) → Each (λ t. P t.1) f → P m ⊎ (coefficient same_tree f m ≡ 0)
+pub absent-or : (P : Tree → Type 0) (f : Poly) (m : Tree) → Each (λ t. P t.1) f → P m ⊎ (coefficient same_tree f m ≡ 0)
 absent-or P [] m h = inr refl
 absent-or P (t ∷ f) m h = elim (cases_Bool (same_tree t.1 m)) [
   | inl e ↦ inl (subst P (tree_tells.sound t.1 m e) h.0)

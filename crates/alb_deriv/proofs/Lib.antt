@@ -5,3 +5,7 @@ pub mod Within
 pub mod Fits
 pub mod LineLemmas
 pub mod ListLemmas
+pub mod Appended
+pub mod LongSums
+pub mod Derivable
+pub mod ShortDerivation

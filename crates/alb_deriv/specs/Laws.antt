@@ -1,10 +1,12 @@
 -- The laws of derivations.
-use Rattle.std.specs.Prelude.{◌≡◌, ◌<◌, ◌↔◌, ℕ, List, [], None}
+use Rattle.std.specs.Prelude.{◌≡◌, ◌<◌, ◌≤◌, ◌↔◌, ℕ, List, [], None}
 use Rattle.alb_mono.specs.Listing.{Each}
 use Rattle.alb_poly.specs.Poly.{Poly}
 use Rattle.alb_poly.specs.Instance.{Form}
-use Rattle.alb_poly.specs.Consequence.{IsConsequence}
+use Rattle.alb_poly.specs.Identity.{IsWithin}
+use Rattle.alb_poly.specs.Consequence.{IsConsequence, AreMultilinear}
 use Rattle.alb_deriv.specs.Derivation.{Line, line_values, AreSound, IsDerivation, claim_fault}
+use Rattle.alb_deriv.specs.Short.{HasShortDerivation}
 
 -- the polynomial of each line is a consequence, where no line has a fault
 abbrev pub LinesAreConsequences : Type 0
@@ -17,3 +19,9 @@ DerivedIsConsequence = (p : ℕ) (target : List ℕ) (fs : List Form) (g : Poly)
 -- the lines are a derivation exactly where they have no fault and end with the claim
 abbrev pub NoFaultIsDerivation : Type 0
 NoFaultIsDerivation = (p : ℕ) (target : List ℕ) (fs : List Form) (g : Poly) (ls : List Line) → 0 < p → (claim_fault p target fs g ls ≡ None) ↔ IsDerivation p target fs g ls
+
+-- each consequence within the target has a derivation, and even one in which no sum has more than `most` items
+abbrev pub ConsequencesHaveDerivations : Type 0
+ConsequencesHaveDerivations =
+    (p most : ℕ) (target : List ℕ) (fs : List Form) (g : Poly) → 0 < p → 2 ≤ most → AreMultilinear fs → IsWithin p target g → IsConsequence p fs g →
+    HasShortDerivation p most target fs g

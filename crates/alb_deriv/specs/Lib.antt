@@ -1,4 +1,5 @@
 pub mod Derivation
 pub mod Views
 pub mod Answers
+pub mod Short
 pub mod Laws

@@ -1,6 +1,6 @@
 //! The laws of derivations. Each is the contract of a function that does nothing.
 
-ghost use Rattle.alb_deriv.specs.Laws.{LinesAreConsequences, DerivedIsConsequence, NoFaultIsDerivation};
+ghost use Rattle.alb_deriv.specs.Laws.{LinesAreConsequences, DerivedIsConsequence, NoFaultIsDerivation, ConsequencesHaveDerivations};
 
 /// The polynomial of each line of a derivation is a consequence.
 pub fn lines()
@@ -15,4 +15,9 @@ pub fn derived()
 /// Lines without a fault that end with the claim are a derivation of it, and the other way round.
 pub fn no_fault()
     ensures { NoFaultIsDerivation }
+{}
+
+/// Each consequence within the target has a derivation, and even one in which no sum has more items than a given number from 2 on.
+pub fn complete()
+    ensures { ConsequencesHaveDerivations }
 {}
