@@ -8,3 +8,11 @@ pub mod ValueLemmas
 pub mod WalkLemmas
 pub mod CheckLemmas
 pub mod VerdictLemmas
+pub mod Cut
+pub mod FirstPart
+pub mod Passing
+pub mod SubShape
+pub mod SubValue
+pub mod SubRefutes
+pub mod SubCode
+pub mod FirstRow

@@ -1,6 +1,6 @@
 -- Every table has one verdict, and what it refutes is no consequence.
 use Rattle.std.proofs.Common.{◌≡◌, ℕ, zero, suc, ◌%◌, ◌<◌, ◌≤◌, List, [], ◌∷◌, length, sum, nat_eq, nat_lt, Bool, true, ◌&&◌, sym, refl, ap, ◌∙◌, subst, arith, inl, inr, ◌⊎◌, below_more}
-use Rattle.std.specs.Prelude.{Option, None, Some}
+use Rattle.std.specs.Prelude.{Option, None, Some, Result, Ok, Err}
 use Rattle.std.specs.Ordering.{nat_cmp, ordering_reverse}
 use Rattle.std.specs.Cmp.Lexicographic.{slice_cmp}
 use Rattle.std.specs.declared.cmp.Ordering.{Ordering}
@@ -20,11 +20,14 @@ use Rattle.alb_poly.specs.Poly.{Poly}
 use Rattle.alb_poly.specs.Instance.{Form}
 use Rattle.alb_poly.specs.Consequence.{form_at, IsConsequence, AreMultilinear}
 use Rattle.alb_problem.specs.Satisfied.{AreSameVectors}
+use Rattle.alb_check.specs.declared.check.Counter.{Counter}
+use Rattle.alb_check.specs.declared.error.TableError.{TableError}
+use Rattle.alb_check.specs.declared.error.TableError.TheVariants as errors
 use Rattle.alb_check.specs.Raw.{Raw, IsRaw}
 use Rattle.alb_check.specs.Shape.{shape_fault}
 use Rattle.alb_check.specs.TableAlgebra.{value, value_at, IsElement, IsZeroAt, IsZeroAtTuples}
 use Rattle.alb_check.specs.First.{IsFirstTuple, AreZeroAtTuples, FirstFailure}
-use Rattle.alb_check.specs.Answers.{IsModel, RefutesText}
+use Rattle.alb_check.specs.Answers.{Answers, IsAccepted, IsModel, RefutesText}
 use Rattle.alb_check.specs.Verdict.{Verdict, IsVerdict}
 use Rattle.alb_check.specs.Verdict.Verdict.{Refuted, BadShape, Fails, ValueZero}
 use Rattle.alb_check.proofs.VectorLemmas.{alike_vector}
@@ -261,3 +264,13 @@ module _ (p : ℕ) (target : List ℕ) (fs : List Form) (t : Raw) (g : Poly) whe
   pub refuted-consequence : AreMultilinear fs → IsRaw p (length target) t → IsVerdict p target fs t g Refuted → IsConsequence p fs g → ⊥
   refuted-consequence multilinear is v c =
       v.1 (alike_vector (value_zero p target t is (shaped target p t v.0.shape) fs g multilinear v.0.zero c))
+
+-- ---- what is refuted is accepted
+
+pub refuted-accepted : (p : ℕ) (target : List ℕ) (fs : List Form) (t : Raw) (g : Poly) (r : Result Counter TableError) →
+    IsVerdict p target fs t g Refuted → Answers p target fs t g r → IsAccepted r
+refuted-accepted p target fs t g (Ok c) v a = tt
+refuted-accepted p target fs t g (Err (errors.BadShape r)) v a = absurd (shape_clash p target fs t g r v.0.shape a)
+refuted-accepted p target fs t g (Err (errors.Fails i ks)) v a = absurd (model_clash p target fs t g i ks.items v.0 a.1)
+refuted-accepted p target fs t g (Err errors.ValueZero) v a = absurd (v.1 a.zero)
+refuted-accepted p target fs t g (Err errors.NoMemory) v a = tt

@@ -51,6 +51,12 @@ Answers p target fs t g (Err (errors.Fails i ks)) = (shape_fault target p t ≡ 
 Answers p target fs t g (Err errors.ValueZero) = IsValueZero p target fs t g
 Answers p target fs t g (Err errors.NoMemory) = Unit {0}
 
+-- the table refutes the polynomial, or there was no memory
+abbrev pub IsAccepted : Result Counter TableError → Type 0
+IsAccepted (Ok c) = Unit {0}
+IsAccepted (Err errors.NoMemory) = Unit {0}
+IsAccepted (Err other) = ⊥
+
 -- each identity of every list that the forms stand for is satisfied
 abbrev pub SatisfiesIdentities : ℕ → List Form → Raw → Type 0
 SatisfiesIdentities p ls t =

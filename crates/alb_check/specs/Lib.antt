@@ -6,4 +6,5 @@ pub mod Walk
 pub mod Products
 pub mod Answers
 pub mod Verdict
+pub mod SubTable
 pub mod Laws

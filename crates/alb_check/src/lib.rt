@@ -7,6 +7,7 @@ pub mod laws;
 mod product;
 mod raw;
 mod shape;
+mod sub;
 #[cfg(test)]
 mod tests;
 mod value;
@@ -15,3 +16,4 @@ mod walk;
 pub use check::{Counter, check_table};
 pub use error::TableError;
 pub use raw::{RawEntry, RawTable};
+pub use sub::sub_table;

@@ -4,6 +4,8 @@ ghost use Rattle.alb_mono.specs.Tree.{are_below, degree};
 ghost use Rattle.alb_poly.specs.Poly.{AreResidues};
 ghost use Rattle.alb_poly.specs.Rules.{form, forms};
 ghost use Rattle.alb_linear.specs.Identity.{IsLinearized};
+ghost use Rattle.alb_table.specs.Example.{square_part, mixed_part};
+ghost use Rattle.alb_table.specs.PartView.{part_view};
 ghost use Rattle.alb_check.specs.Raw.{raw, IsRaw};
 ghost use Rattle.alb_check.specs.Answers.{AreRules};
 
@@ -11,6 +13,8 @@ use super::*;
 use alb_linear::{Identity, linearize};
 use alb_mono::{Mono, Multi, NoMemory};
 use alb_poly::{Linear, Poly, Rules};
+use alb_rows::Row;
+use alb_table::{Elem, Part, Tables};
 use gf_field::{Field, Residue};
 use std::alloc::Global;
 use std::test::Fail;
@@ -412,5 +416,92 @@ fn passes_over_heavy_tuples(rt: HostRuntime) -> Result<(), Fail> {
         answer.as_ref().map(|v| v.as_slice()),
         Some([62].as_slice())
     );
+    Ok(())
+}
+
+// The products of a with a.
+fn squares(alloc: Global) -> Result<Part, NoMemory>
+    ensures { IfOk result (λ q. part_view q ≡ square_part) }
+{
+    let mut basis = Vec::new(alloc);
+    basis.push(Elem::Prod(0, 0))?;
+    let mut entries = Vec::new(alloc);
+    entries.push(Row::unit(alloc, 2, 1)?)?;
+    Ok(Part {
+        at: Multi::of(&[2, 0]),
+        basis,
+        entries,
+        origins: Vec::new(alloc),
+    })
+}
+
+// The products of a and b.
+fn mixed(alloc: Global) -> Result<Part, NoMemory>
+    ensures { IfOk result (λ q. part_view q ≡ mixed_part) }
+{
+    let mut basis = Vec::new(alloc);
+    basis.push(Elem::Prod(0, 1))?;
+    basis.push(Elem::Prod(1, 0))?;
+    let mut entries = Vec::new(alloc);
+    entries.push(Row::unit(alloc, 3, 1)?)?;
+    entries.push(Row::unit(alloc, 4, 1)?)?;
+    Ok(Part {
+        at: Multi::of(&[1, 1]),
+        basis,
+        entries,
+        origins: Vec::new(alloc),
+    })
+}
+
+// The free algebra on a, at most twice, and b, at most once, up to degree 2. Its basis is a, b, aa, ab, ba.
+fn free(alloc: Global) -> Result<Tables, Fail>
+    ensures { IfOk result (λ t. (t.p ≡ 251) × (length t.target ≡ 2)) }
+{
+    let field = Field::of(251)?;
+    let first = Tables::first(alloc, field, &Multi::of(&[2, 1]))?;
+    let mut parts = Vec::new(alloc);
+    parts.push(squares(alloc)?)?;
+    parts.push(mixed(alloc)?)?;
+    Ok(first.extend(alloc, parts)?)
+}
+
+// The numbers of the entries, and their coefficients.
+fn listed(alloc: Global, entries: &[RawEntry]) -> Result<Vec<(u64, u64, u64, Residue)>, NoMemory> {
+    let mut out = Vec::new(alloc);
+    for e in entries {
+        out.push((e.left, e.right, e.to, e.coef))?;
+    }
+    Ok(out)
+}
+
+#[test]
+fn gives_the_free_products(rt: HostRuntime) -> Result<(), Fail> {
+    let alloc = rt.alloc();
+    let tables = free(alloc)?;
+    // a, b, ab and ba; aa is above the type
+    let table = sub_table(alloc, &tables, &Multi::of(&[1, 1]))?;
+    let types = [[1, 0], [0, 1], [1, 1], [1, 1]];
+    assert_eq!(rt; table.elements.len(), types.len());
+    for (e, counts) in table.elements.iter().zip(&types) {
+        assert_eq!(rt; e.counts(), counts.as_slice());
+    }
+    assert_eq!(rt; table.generators.as_slice(), [Some(1), Some(2)].as_slice());
+    let entries = listed(alloc, &table.entries)?;
+    assert_eq!(rt; entries.as_slice(), [(1, 2, 3, 1), (2, 1, 4, 1)].as_slice());
+    // it refutes ab - ba
+    let field = Field::of(251)?;
+    let (a, b) = (Mono::Gen(0), Mono::Gen(1));
+    let ab = times(alloc, &a, &b)?;
+    let claim = difference(alloc, &field, ab, times(alloc, &b, &a)?)?;
+    let answer = judged(alloc, &[2, 1], None, Some(table), &claim);
+    assert_eq!(rt;
+        answer.as_ref().map(|v| v.as_slice()),
+        Some([0, 3, 1, 4, 250].as_slice())
+    );
+    // b alone
+    let table = sub_table(alloc, &tables, &Multi::of(&[0, 1]))?;
+    assert_eq!(rt; table.elements.len(), 1);
+    assert_eq!(rt; table.generators.as_slice(), [None, Some(1)].as_slice());
+    assert_eq!(rt; table.entries.len(), 0);
     Ok(())
 }
