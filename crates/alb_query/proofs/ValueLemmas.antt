@@ -58,7 +58,7 @@ generator-unit n k h = grind (arith, nat_tests)
 pub column-at : (n : ℕ) (cells : Cells) (i : ℕ) (d : ℕ × ℕ) → All (λ cell. cell.0 < n) cells → i < length cells → (slice_index_or cells i d).0 < n
 column-at n cells i d a h = a i d h
 
-columns-below : (n : ℕ) (cells : Cells) → All (λ cell. cell.0 < n) cells → Each (λ s. s.1 < n) (comb cells)
+pub columns-below : (n : ℕ) (cells : Cells) → All (λ cell. cell.0 < n) cells → Each (λ s. s.1 < n) (comb cells)
 columns-below n [] a = tt
 columns-below n (c ∷ cells) a = (a 0 c (omega arith), columns-below n cells (λ k d h. a (suc k) d (omega arith)))
 
@@ -124,7 +124,7 @@ module _ (fs : List Form) (t : Table) (tab : IsTable t) (right : IsRightTable fs
   ]
 
   -- different basis elements have different monomials
-  apart : (i j : ℕ) → i < length (elems t.parts) → j < length (elems t.parts) → same_tree (mono_at t.parts i) (mono_at t.parts j) ≡ nat_eq i j
+  pub apart : (i j : ℕ) → i < length (elems t.parts) → j < length (elems t.parts) → same_tree (mono_at t.parts i) (mono_at t.parts j) ≡ nat_eq i j
   apart i j a b = elim (cases_Bool (nat_eq i j)) [
     | inl e ↦ let q : i ≡ j = told.sound i j e in rw (e, q) (tree_tells.whole (mono_at t.parts j))
     | inr e ↦ rw e (others i j a b e)
@@ -144,7 +144,7 @@ module _ (fs : List Form) (t : Table) (tab : IsTable t) (right : IsRightTable fs
         ∙ value-by_numbers (length t.target) (monos t.parts) (table_product t.parts) is-numbered g below
 
     module _ (cells : Cells) (vector : IsVector t.p (length (elems t.parts)) cells) (is : AreSameVector t.p (comb cells) (table_value t g)) where
-      row-alike : Alike t.p (reindex (mono_at t.parts) (comb cells)) (poly_value (mono_entry t.parts) g)
+      pub row-alike : Alike t.p (reindex (mono_at t.parts) (comb cells)) (poly_value (mono_entry t.parts) g)
       row-alike = subst (Alike t.p (reindex (mono_at t.parts) (comb cells))) value-monos (reindex-alike (mono_at t.parts) (alike-same nat_eq told is))
 
       columns : Each (λ s. s.1 < length (elems t.parts)) (comb cells)

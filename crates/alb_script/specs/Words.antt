@@ -44,10 +44,8 @@ is_late word.Claim = true
 is_late word.Await = true
 is_late other = false
 
--- the words of the forms: a batch gives no evidence, has no claims and waits for nothing, a check alone has claims, and a session
--- has no problem
+-- the words of the forms: a batch has no claims and waits for nothing, a check alone has claims, and a session has no problem
 abbrev pub belongs : Form → Word → Bool
-belongs form.Batch word.Prove = false
 belongs form.Batch word.Claim = false
 belongs form.Batch word.Await = false
 belongs form.Batch other = true

@@ -62,7 +62,7 @@ pub fn belongs(form: Form, word: Word) -> bool
     ensures { result ≡ belongs form word }
 {
     match form {
-        Form::Batch => !matches!(word, Word::Prove | Word::Claim | Word::Await),
+        Form::Batch => !matches!(word, Word::Claim | Word::Await),
         Form::Check => matches!(
             word,
             Word::Field | Word::Generators | Word::Identity | Word::Build | Word::Claim | Word::Quit

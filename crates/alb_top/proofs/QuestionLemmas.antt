@@ -1,5 +1,5 @@
 -- What the answer to a question means, and that each question has one.
-use Rattle.std.proofs.Common.{◌≡◌, ℕ, ◌<◌, Bool, true, false, List, [], ◌∷◌, length, map, sum, Option, Some, None, refl, sym, ap, ◌∙◌, subst, nat_lt}
+use Rattle.std.proofs.Common.{arith, ◌≡◌, ℕ, ◌<◌, Bool, true, false, List, [], ◌∷◌, length, map, sum, Option, Some, None, refl, sym, ap, ◌∙◌, subst, nat_lt}
 use Rattle.std.specs.Prelude.{IsTrue, All, if◌then◌else◌}
 use Rattle.gf_field.proofs.Table.{IsPrime-from_table}
 use Rattle.alb_mono.specs.Listing.{Each}
@@ -16,7 +16,14 @@ use Rattle.alb_problem.proofs.TextbookLemmas.{IsWithin-terms, MatchesTextbook-li
 use Rattle.alb_table.specs.Table.{Table}
 use Rattle.alb_table.specs.Leading.{difference}
 use Rattle.alb_query.specs.Answer.{Answer, Zero, NotZero, NotBuilt, OutOfType, fits, misfit, IsAnswer, AnswersUnless, AnswersFitting, AnswersWithin}
-use Rattle.alb_top.specs.Verdict.{IsMeant}
+use Rattle.alb_check.specs.Raw.{Raw, IsRaw}
+use Rattle.alb_check.specs.TableAlgebra.{Satisfies}
+use Rattle.alb_check.specs.Verdict as tables
+use Rattle.alb_check.proofs.TableLemmas.{shaped, nilpotent, le_sum}
+use Rattle.alb_check.proofs.RefuteLemmas.{all_satisfied}
+use Rattle.alb_table.proofs.TableLemmas.{each-unmap}
+use Rattle.alb_trace.specs.Proof.{Shown, ByLines, ByTable, ByNothing, Shows}
+use Rattle.alb_top.specs.Verdict.{IsMeant, IsCounterexample, IsShownMeant}
 use Rattle.alb_top.specs.Script.{IsTableOf, forms_of}
 use Rattle.alb_top.specs.Sound.{IsSoundProblem}
 use Rattle.alb_top.proofs.ProblemLemmas.{text-consequence, table-positive, same-named, all-homogeneous, polynomials-named, accepted-large}
@@ -62,3 +69,31 @@ answer-meant b t g a h accepted table is =
     let at_field : IsAnswer b.field (forms_of b) b.counts t.degree g a =
     subst (λ p. IsAnswer p (forms_of b) b.counts t.degree g a) table.field (subst (λ target. IsAnswer t.p (forms_of b) target t.degree g a) table.goal is) in
     subst (λ p. IsMeant p b.identities g a) (sym table.field) (meant-unless b t.degree g a (misfit b.counts g) refl h accepted at_field)
+
+-- ---- what is shown
+
+-- a table with the verdict that it refutes is a counterexample
+table-counterexample : (b : Builder) (g : Poly) (r : Raw) → IsSoundProblem b → finish_refusal b ≡ None → IsRaw b.field (length b.counts) r → tables.IsVerdict b.field b.counts (forms_of b) r g tables.Refuted
+    → IsCounterexample b.field b.identities g r
+table-counterexample b g r h accepted raw is =
+    let right = shaped b.counts b.field r is.0.shape in
+    let within : type_le r.top b.counts ≡ true = and_left (type_le r.top b.counts) _ (and_right (nat_lt 0 (sum r.top)) _ right.top) in
+    let below : sum r.top < b.field = omega (arith, accepted-large b accepted, le_sum r.top b.counts raw.top within) in
+    record {
+      nilpotent = nilpotent b.field b.counts r raw right;
+      satisfies = each-unmap (λ i. Satisfies b.field r i.terms) with_degrees b.identities
+          (all_satisfied b.field b.counts r raw right (IsPrime-from_table b.field h.field) below (forms_of b) (map with_degrees b.identities) is.0.zero (all-homogeneous b h) (same-named b.field b.identities));
+      nonzero = is.1;
+    }
+
+-- what is shown of an answer is what it is to be
+pub shown-meant : (b : Builder) (t : Table) (g : Poly) (a : Answer) (s : Shown) → IsSoundProblem b → finish_refusal b ≡ None → IsTableOf b t → Shows (forms_of b) t g a s → IsShownMeant t.p b.identities g s
+shown-meant b t g Zero (ByLines ls) h accepted table e = tt
+shown-meant b t g (NotZero f) (ByTable r) h accepted table e =
+    let raw : IsRaw b.field (length b.counts) r = subst (λ p. IsRaw p (length b.counts) r) table.field (subst (λ target. IsRaw t.p (length target) r) table.goal e.over) in
+    let is : tables.IsVerdict b.field b.counts (forms_of b) r g tables.Refuted =
+    subst (λ p. tables.IsVerdict p b.counts (forms_of b) r g tables.Refuted) table.field (subst (λ target. tables.IsVerdict t.p target (forms_of b) r g tables.Refuted) table.goal e.refutes) in
+    subst (λ p. IsCounterexample p b.identities g r) (sym table.field) (table-counterexample b g r h accepted raw is)
+shown-meant b t g (NotBuilt n) ByNothing h accepted table e = tt
+shown-meant b t g (OutOfType m) ByNothing h accepted table e = tt
+shown-meant b t g a s h accepted table e = absurd e

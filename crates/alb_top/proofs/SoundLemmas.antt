@@ -30,15 +30,16 @@ use Rattle.alb_evidence.specs.Block.{evidence_of}
 use Rattle.alb_evidence.specs.Words.{is_end}
 use Rattle.alb_table.specs.Table.{Table}
 use Rattle.alb_query.proofs.LawLemmas.{each-is-answered}
+use Rattle.alb_trace.proofs.Shown.{each-is-shown}
 use Rattle.alb_answer.specs.Answers.{answer_line, dimension_lines, product_lines, built_line}
 use Rattle.alb_top.specs.Verdict.{Verdict, Rejected, IsVerdict, IsJustified, derived, block_text, of_table}
-use Rattle.alb_top.specs.Script.{State, Open, NoBlock, Claimed, Refused, Reply, Nothing, Ready, Told, RefusedLine, Judged, start, forms_of, stated_text, stated, with_problem, tell, obey, IsTableOf, Builds, BuildsBy, BuildsUnless, AsksTable, Obeys, ObeysLine, Commands, refuse_line, asked_of, letters_of, total_of, begins_block, shut, Judges, EndsBlock, inside, OfBlock, AnswersIn, AnswersLine, AnswersEnd, Step, Finish, text_of}
+use Rattle.alb_top.specs.Script.{State, Open, NoBlock, Claimed, Refused, Reply, Nothing, Ready, Told, RefusedLine, Judged, start, forms_of, stated_text, stated, with_problem, tell, obey, IsTableOf, Builds, BuildsBy, BuildsUnless, AsksTable, Obeys, ObeysLine, Commands, refuse_line, asked_of, letters_of, total_of, begins_block, shut, Judges, EndsBlock, inside, OfBlock, AnswersIn, AnswersLine, AnswersEnd, Step, Finish, shown_text, text_of}
 use Rattle.alb_top.specs.View.{IsTimely, StandsBy}
 use Rattle.alb_top.specs.Sound.{IsSoundProblem, IsSound, IsBehindBuild, HasRight, HasTable}
 use Rattle.alb_top.proofs.EvidenceLemmas.{evidence-raw}
 use Rattle.alb_top.proofs.AskedLemmas.{IsKnown, asked-timely, asked-known}
 use Rattle.alb_top.proofs.ProblemLemmas.{stated-sound, text-consequence, table-positive, same-named, all-homogeneous, polynomials-named, accepted-large, problem-forms, forms-multilinear}
-use Rattle.alb_top.proofs.QuestionLemmas.{answer-meant}
+use Rattle.alb_top.proofs.QuestionLemmas.{answer-meant, shown-meant}
 use Rattle.alb_top.proofs.Totality.{problem-ends}
 
 -- ---- commands
@@ -69,6 +70,7 @@ with-sound s a early h k = record {
 abbrev IsPlainOrder : Asked → Type 0
 IsPlainOrder asking.Build = ⊥
 IsPlainOrder (asking.Polynomial f) = ⊥
+IsPlainOrder (asking.Prove f) = ⊥
 IsPlainOrder asking.Dimensions = ⊥
 IsPlainOrder asking.Table = ⊥
 IsPlainOrder other = Unit {0}
@@ -82,7 +84,7 @@ obey-sound s asking.Build h t k plain = absurd plain
 obey-sound s (asking.Claim f) h t k plain = record { problem = h.problem; accepted = h.accepted; claims = t; table = h.table }
 obey-sound s asking.Quit h t k plain = record { problem = h.problem; accepted = h.accepted; claims = h.claims; table = h.table }
 obey-sound s (asking.Polynomial f) h t k plain = absurd plain
-obey-sound s (asking.Prove f) h t k plain = told-sound s Nothing h
+obey-sound s (asking.Prove f) h t k plain = absurd plain
 obey-sound s asking.Dimensions h t k plain = absurd plain
 obey-sound s asking.Table h t k plain = absurd plain
 obey-sound s (asking.Await m) h t k plain = told-sound s Nothing h
@@ -167,6 +169,8 @@ unless-built (Some r) old new reply is h b = same-sound new reply _ b (told-soun
 asks-sound : (o : Option Table) (old new : State) (a : Asked) (reply : Reply) → IsSound old → AsksTable o old a reply new → IsSound new
 asks-sound None old new a reply h e = absurd e
 asks-sound (Some t) old new (asking.Polynomial g) reply h e = same-sound new reply _ e.told (told-sound old (Told (answer_line t.p old.problem.letters t.degree e.answer)) h)
+asks-sound (Some t) old new (asking.Prove g) reply h e =
+    same-sound new reply _ e.told (told-sound old (Told (answer_line t.p old.problem.letters t.degree e.answer ++ shown_text t.p old.problem.letters e.shown)) h)
 asks-sound (Some t) old new asking.Dimensions reply h e = same-sound new reply _ e (told-sound old (Told (dimension_lines t)) h)
 asks-sound (Some t) old new asking.Table reply h e = same-sound new reply _ e (told-sound old (Told (product_lines old.problem.letters t)) h)
 asks-sound (Some t) old new asking.Blank reply h e = absurd e
@@ -174,7 +178,6 @@ asks-sound (Some t) old new (asking.Field p) reply h e = absurd e
 asks-sound (Some t) old new (asking.Generators ts end) reply h e = absurd e
 asks-sound (Some t) old new (asking.Identity f) reply h e = absurd e
 asks-sound (Some t) old new asking.Build reply h e = absurd e
-asks-sound (Some t) old new (asking.Prove f) reply h e = absurd e
 asks-sound (Some t) old new (asking.Claim f) reply h e = absurd e
 asks-sound (Some t) old new (asking.Await n) reply h e = absurd e
 asks-sound (Some t) old new asking.Quit reply h e = absurd e
@@ -182,13 +185,13 @@ asks-sound (Some t) old new asking.Quit reply h e = absurd e
 obeys-sound : (old new : State) (a : Asked) (reply : Reply) → IsSound old → StandsBy old.built a → IsKnown a → Obeys old a reply new → IsSound new
 obeys-sound old new asking.Build reply h t k e = unless-built (finish_refusal old.problem) old new reply refl h e
 obeys-sound old new (asking.Polynomial g) reply h t k e = asks-sound old.table old new (asking.Polynomial g) reply h e
+obeys-sound old new (asking.Prove g) reply h t k e = asks-sound old.table old new (asking.Prove g) reply h e
 obeys-sound old new asking.Dimensions reply h t k e = asks-sound old.table old new asking.Dimensions reply h e
 obeys-sound old new asking.Table reply h t k e = asks-sound old.table old new asking.Table reply h e
 obeys-sound old new asking.Blank reply h t k e = same-sound new reply _ e (obey-sound old asking.Blank h t k tt)
 obeys-sound old new (asking.Field p) reply h t k e = same-sound new reply _ e (obey-sound old (asking.Field p) h t k tt)
 obeys-sound old new (asking.Generators ts end) reply h t k e = same-sound new reply _ e (obey-sound old (asking.Generators ts end) h t k tt)
 obeys-sound old new (asking.Identity f) reply h t k e = same-sound new reply _ e (obey-sound old (asking.Identity f) h t k tt)
-obeys-sound old new (asking.Prove f) reply h t k e = same-sound new reply _ e (obey-sound old (asking.Prove f) h t k tt)
 obeys-sound old new (asking.Claim f) reply h t k e = same-sound new reply _ e (obey-sound old (asking.Claim f) h t k tt)
 obeys-sound old new (asking.Await m) reply h t k e = same-sound new reply _ e (obey-sound old (asking.Await m) h t k tt)
 obeys-sound old new asking.Quit reply h t k e = same-sound new reply _ e (obey-sound old asking.Quit h t k tt)
@@ -237,6 +240,11 @@ right-table form.Batch false b o is h t = absurd (cc)
 right-table form.Session true b o is h t = t
 right-table form.Session false b o is h t = absurd (cc)
 
+prove-form : (f : Form) → belongs f word.Prove ≡ true → belongs f word.Polynomial ≡ true
+prove-form form.Check is = absurd (cc)
+prove-form form.Batch is = refl
+prove-form form.Session is = refl
+
 dimensions-form : (f : Form) → belongs f word.Dimensions ≡ true → belongs f word.Polynomial ≡ true
 dimensions-form form.Check is = absurd (cc)
 dimensions-form form.Batch is = refl
@@ -262,6 +270,27 @@ asks_polynomial-some (Some t) old g h built right =
       record { answer = a.0; is = a.1; told = refl; meant = answer-meant old.problem t g a.0 h.problem (h.accepted built) right a.1 },
     )
 
+asks_prove-some : (o : Option Table) (old : State) (g : Poly) → IsSound old → old.built ≡ true → HasRight old.problem o
+    → (reply : Reply) × (new : State) × AsksTable o old (asking.Prove g) reply new
+asks_prove-some None old g h built right = absurd right
+asks_prove-some (Some t) old g h built right =
+    let forms = problem-forms old.problem h.problem in
+    let multi = forms-multilinear old.problem.field (forms_of old.problem) forms.linearized in
+    let a = each-is-answered (forms_of old.problem) t g multi forms.high right.table right.right in
+    let s = each-is-shown (forms_of old.problem) t g a.0 multi forms.high right.table right.right a.1 in (
+      Told (answer_line t.p old.problem.letters t.degree a.0 ++ shown_text t.p old.problem.letters s.0),
+      (tell (Told (answer_line t.p old.problem.letters t.degree a.0 ++ shown_text t.p old.problem.letters s.0)) old).1,
+      record {
+        answer = a.0;
+        is = a.1;
+        shown = s.0;
+        shows = s.1;
+        told = refl;
+        meant = answer-meant old.problem t g a.0 h.problem (h.accepted built) right a.1;
+        shown_meant = shown-meant old.problem t g a.0 s.0 h.problem (h.accepted built) right s.1;
+      },
+    )
+
 asks_dimensions-some : (o : Option Table) (old : State) → HasRight old.problem o → (reply : Reply) × (new : State) × AsksTable o old asking.Dimensions reply new
 asks_dimensions-some None old right = absurd right
 asks_dimensions-some (Some t) old right = (Told (dimension_lines t), (tell (Told (dimension_lines t)) old).1, refl)
@@ -278,6 +307,8 @@ obeys-some : (old : State) (a : Asked) → IsSound old → IsTimely old.form old
 obeys-some old asking.Build h t k = unless-some (finish_refusal old.problem) old refl h
 obeys-some old (asking.Polynomial g) h t k =
     soundly old (asking.Polynomial g) h t.stands k (asks_polynomial-some old.table old g h t.stands (right-table old.form old.built old.problem old.table t.of_form t.stands h.table))
+obeys-some old (asking.Prove g) h t k =
+    soundly old (asking.Prove g) h t.stands k (asks_prove-some old.table old g h t.stands (right-table old.form old.built old.problem old.table (prove-form old.form t.of_form) t.stands h.table))
 obeys-some old asking.Dimensions h t k =
     soundly old asking.Dimensions h t.stands tt (asks_dimensions-some old.table old (right-table old.form old.built old.problem old.table (dimensions-form old.form t.of_form) t.stands h.table))
 obeys-some old asking.Table h t k =
@@ -286,7 +317,6 @@ obeys-some old asking.Blank h t k = soundly old asking.Blank h t.stands k ((obey
 obeys-some old (asking.Field p) h t k = soundly old (asking.Field p) h t.stands k ((obey old (asking.Field p)).0, (obey old (asking.Field p)).1, refl)
 obeys-some old (asking.Generators ts end) h t k = soundly old (asking.Generators ts end) h t.stands k ((obey old (asking.Generators ts end)).0, (obey old (asking.Generators ts end)).1, refl)
 obeys-some old (asking.Identity f) h t k = soundly old (asking.Identity f) h t.stands k ((obey old (asking.Identity f)).0, (obey old (asking.Identity f)).1, refl)
-obeys-some old (asking.Prove f) h t k = soundly old (asking.Prove f) h t.stands k ((obey old (asking.Prove f)).0, (obey old (asking.Prove f)).1, refl)
 obeys-some old (asking.Claim f) h t k = soundly old (asking.Claim f) h t.stands k ((obey old (asking.Claim f)).0, (obey old (asking.Claim f)).1, refl)
 obeys-some old (asking.Await m) h t k = soundly old (asking.Await m) h t.stands k ((obey old (asking.Await m)).0, (obey old (asking.Await m)).1, refl)
 obeys-some old asking.Quit h t k = soundly old asking.Quit h t.stands k ((obey old asking.Quit).0, (obey old asking.Quit).1, refl)

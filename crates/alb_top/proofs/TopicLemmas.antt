@@ -1,5 +1,5 @@
 -- The table of an accepted problem, and the questions about it.
-use Rattle.std.proofs.Common.{◌≡◌, ℕ, ◌+◌, ◌<◌, ◌≤◌, ◌^◌, Bool, true, false, List, [], ◌∷◌, length, map, sum, Option, Some, None, Global, refl, sym, ap, ap₂, ◌∙◌, subst, arith}
+use Rattle.std.proofs.Common.{◌≡◌, ℕ, ◌+◌, ◌<◌, ◌≤◌, ◌^◌, Bool, true, false, List, [], ◌∷◌, ◌++◌, length, map, sum, Option, Some, None, Global, refl, sym, ap, ap₂, ◌∙◌, subst, arith}
 use Rattle.std.specs.Prelude.{nat_le, ◌==◌}
 use Rattle.std.specs.Arc.{arc_value}
 use Rattle.std.specs.declared.sync.Arc.{Arc}
@@ -8,7 +8,7 @@ use Rattle.std.proofs.lemmas.List.{length-map}
 use Rattle.alb_mono.specs.Listing.{Each}
 use Rattle.alb_poly.specs.Identity.{IsHomogeneous}
 use Rattle.alb_poly.specs.Rules.{forms}
-use Rattle.alb_linear.specs.Identity.{leading_type, identity_fault}
+use Rattle.alb_linear.specs.Identity.{leading_type, identity_fault, IsLinearized}
 use Rattle.alb_linear.specs.declared.identity.Identity.{Identity}
 use Rattle.alb_problem.specs.Builder.{Builder, IsKept}
 use Rattle.alb_problem.specs.Problem.{problem, IsAccepted}
@@ -26,7 +26,7 @@ use Rattle.alb_table.specs.RightTable.{IsRightTable}
 use Rattle.alb_query.specs.Answer as query
 use Rattle.alb_query.specs.Views.{answer_of}
 use Rattle.alb_answer.specs.Answers.{answer_line, dimension_lines, product_lines}
-use Rattle.alb_top.specs.Script.{State, NoBlock, Told, IsTableOf, BuildsBy, BuildsUnless, Obeys, forms_of}
+use Rattle.alb_top.specs.Script.{State, NoBlock, Told, IsTableOf, BuildsBy, BuildsUnless, Obeys, forms_of, shown_text}
 use Rattle.alb_top.specs.Sound.{IsSoundProblem}
 use Rattle.alb_top.specs.View.{answer, state, said, is_built, table_of, IsStage, IsScript, IsTopic, Begins, RepliesTo}
 use Rattle.alb_top.specs.declared.reply.Reply as Rust
@@ -37,7 +37,8 @@ use Rattle.alb_top.specs.declared.script.Stage.TheVariants as stage
 use Rattle.alb_top.specs.declared.reply.Topic.{Topic}
 use Rattle.alb_top.proofs.ProblemLemmas.{AreForms, forms-of}
 use Rattle.alb_top.proofs.ClaimLemmas.{forms-rules}
-use Rattle.alb_top.proofs.QuestionLemmas.{answer-meant}
+use Rattle.alb_top.proofs.QuestionLemmas.{answer-meant, shown-meant}
+use Rattle.alb_trace.specs.Proof.{shown, Shows}
 
 kept-homogeneous : (p : ℕ) (fs : List Identity) → Each (λ f. IsKept p f.poly) fs → Each (λ f. IsHomogeneous (leading_type f) f) (map (λ (f : Identity). f.poly) fs)
 kept-homogeneous p [] h = tt
@@ -62,6 +63,11 @@ accepted-rules q a =
     let n : length (forms q.rules) ≡ length q.identities.items = ap length a.stand ∙ length-map q.identities.items _ in
     let m : length (forms q.rules) ≡ length q.rules.linears.items = length-map q.rules.linears.items _ in
     record { linearized = f.linearized; low = f.low; high = f.high; few = omega (arith, n, m, a.few) }
+
+pub topic-rules : (t : Topic) → IsTopic t → AreRules t.problem.rules t.tables
+topic-rules t h =
+    let r : AreRules t.problem.rules (first_table t.problem.rules.field t.problem.rules.target) = accepted-rules t.problem h.accepted in
+    record { linearized = subst (λ p. Each (IsLinearized p) (forms t.problem.rules)) (sym h.field) r.linearized; low = r.low; high = r.high; few = r.few }
 
 -- what a topic says of its problem
 pub topic-table : (t : Topic) → IsTopic t → IsTableOf (problem t.problem) t.tables
@@ -101,6 +107,20 @@ replied f t closed clean (asking.Polynomial g) (reply.Answer s x) h sound e =
       is = is;
       told = ap (λ (u : Topic). (Told (answer_line u.tables.p u.problem.letters u.tables.degree (answer_of x)), topical f t closed clean)) e.0;
       meant = answer-meant (problem t.problem) t.tables g (answer_of x) sound (accepted-finish t.problem h.accepted) (topic-table t h) is;
+    }
+replied f t closed clean (asking.Prove g) (reply.Proved s x q) h sound e =
+    let same = forms-rules t.problem h.accepted in
+    let is : query.IsAnswer t.tables.p (forms_of (problem t.problem)) t.tables.target t.tables.degree g (answer_of x) =
+    subst (λ fs. query.IsAnswer t.tables.p fs t.tables.target t.tables.degree g (answer_of x)) same e.1 in
+    let shows : Shows (forms_of (problem t.problem)) t.tables g (answer_of x) (shown q) = subst (λ fs. Shows fs t.tables g (answer_of x) (shown q)) same e.2 in
+    record {
+      answer = answer_of x;
+      is = is;
+      shown = shown q;
+      shows = shows;
+      told = ap (λ (u : Topic). (Told (answer_line u.tables.p u.problem.letters u.tables.degree (answer_of x) ++ shown_text u.tables.p u.problem.letters (shown q)), topical f t closed clean)) e.0;
+      meant = answer-meant (problem t.problem) t.tables g (answer_of x) sound (accepted-finish t.problem h.accepted) (topic-table t h) is;
+      shown_meant = shown-meant (problem t.problem) t.tables g (answer_of x) (shown q) sound (accepted-finish t.problem h.accepted) (topic-table t h) shows;
     }
 replied f t closed clean asking.Dimensions (reply.Dimensions s) h sound e =
     ap (λ (u : Topic). (Told (dimension_lines u.tables), topical f t closed clean)) e

@@ -18,12 +18,14 @@ use Rattle.alb_script.specs.declared.form.Form.TheVariants as form
 use Rattle.alb_script.specs.declared.error.CommandError.{CommandError}
 use Rattle.alb_evidence.specs.Words.{ends_word, is_end}
 use Rattle.alb_evidence.specs.Block.{Evidence, Fault, evidence_of}
+use Rattle.alb_evidence.specs.Texts.{lines_text, table_text}
 use Rattle.alb_table.specs.Table.{Table, IsTable}
 use Rattle.alb_table.specs.RightTable.{IsRightTable}
 use Rattle.alb_table.specs.End.{End, IsEnd}
 use Rattle.alb_query.specs.Answer.{Answer, IsAnswer}
+use Rattle.alb_trace.specs.Proof.{Shown, ByLines, ByTable, ByNothing, Shows}
 use Rattle.alb_answer.specs.Answers.{answer_line, dimension_lines, product_lines, built_line}
-use Rattle.alb_top.specs.Verdict.{Verdict, IsVerdict, is_accepted, verdict_text, IsJustified, IsMeant}
+use Rattle.alb_top.specs.Verdict.{Verdict, IsVerdict, is_accepted, verdict_text, IsJustified, IsMeant, IsShownMeant}
 
 -- What the lines of an open block stand behind: nothing, where no block is open; a claim, with the lines so far; or a claim
 -- whose line is refused, with the refusal.
@@ -166,9 +168,26 @@ pub record Answers (old : State) (t : Table) (g : Poly) (reply : Reply) (new : S
   pub told : (reply, new) ≡ tell (Told (answer_line t.p old.problem.letters t.degree answer)) old
   pub meant : IsMeant t.p old.problem.identities g answer
 
+-- what is shown prints as evidence
+abbrev pub shown_text : ℕ → List ℕ → Shown → List ℕ
+shown_text p letters (ByLines ls) = lines_text p letters ls
+shown_text p letters (ByTable t) = table_text p letters t
+shown_text p letters ByNothing = []
+
+-- the same, and behind the answer stands what shows it
+pub record Proves (old : State) (t : Table) (g : Poly) (reply : Reply) (new : State) : Type 0 where
+  pub answer : Answer
+  pub is : IsAnswer t.p (forms_of old.problem) t.target t.degree g answer
+  pub shown : Shown
+  pub shows : Shows (forms_of old.problem) t g answer shown
+  pub told : (reply, new) ≡ tell (Told (answer_line t.p old.problem.letters t.degree answer ++ shown_text t.p old.problem.letters shown)) old
+  pub meant : IsMeant t.p old.problem.identities g answer
+  pub shown_meant : IsShownMeant t.p old.problem.identities g shown
+
 -- a question to a table
 abbrev pub AsksTable : Option Table → State → Asked → Reply → State → Type 0
 AsksTable (Some t) old (asking.Polynomial g) reply new = Answers old t g reply new
+AsksTable (Some t) old (asking.Prove g) reply new = Proves old t g reply new
 AsksTable (Some t) old asking.Dimensions reply new = (reply, new) ≡ tell (Told (dimension_lines t)) old
 AsksTable (Some t) old asking.Table reply new = (reply, new) ≡ tell (Told (product_lines old.problem.letters t)) old
 AsksTable (Some t) old other reply new = ⊥
@@ -178,6 +197,7 @@ AsksTable None old a reply new = ⊥
 abbrev pub Obeys : State → Asked → Reply → State → Type 0
 Obeys old Build reply new = BuildsUnless (refusals.finish_refusal old.problem) old reply new
 Obeys old (asking.Polynomial g) reply new = AsksTable old.table old (asking.Polynomial g) reply new
+Obeys old (asking.Prove g) reply new = AsksTable old.table old (asking.Prove g) reply new
 Obeys old asking.Dimensions reply new = AsksTable old.table old asking.Dimensions reply new
 Obeys old asking.Table reply new = AsksTable old.table old asking.Table reply new
 Obeys old other reply new = (reply, new) ≡ obey old other

@@ -1,16 +1,21 @@
 -- How the evidence for a claim is judged.
-use Rattle.std.specs.Prelude.{◌≡◌, ℕ, Bool, true, false, List, ◌∷◌, ◌++◌, Option, None, Some, Result, Ok, Err, decimal, codes}
+use Rattle.std.specs.Prelude.{◌≡◌, ℕ, Bool, true, false, List, [], ◌∷◌, ◌++◌, Option, None, Some, Result, Ok, Err, decimal, codes}
+use Rattle.alb_mono.specs.Listing.{Each}
 use Rattle.std.specs.List.{flat_map}
 use Rattle.alb_poly.specs.Poly.{Poly}
 use Rattle.alb_poly.specs.Instance.{Form}
 use Rattle.alb_poly.specs.Textbook.{IsTextConsequence}
 use Rattle.alb_deriv.specs.Derivation as derivation
 use Rattle.alb_deriv.specs.Derivation.{claim_fault}
+use Rattle.alb_check.specs.Raw.{Raw}
+use Rattle.alb_check.specs.TableAlgebra.{value, Satisfies, IsNilpotent}
 use Rattle.alb_check.specs.Verdict as tables
 use Rattle.alb_evidence.specs.Block as block
 use Rattle.alb_evidence.specs.Block.{Evidence, Fault, BadLine, BadNumber}
 use Rattle.alb_table.specs.Leading.{difference}
+use Rattle.alb_problem.specs.Satisfied.{AreSameVectors}
 use Rattle.alb_query.specs.Answer.{Answer, Zero, NotZero, NotBuilt, OutOfType}
+use Rattle.alb_trace.specs.Proof.{Shown, ByLines, ByTable, ByNothing}
 
 -- the claim is zero, or it is not, or the evidence is rejected, with this line
 pub data Verdict : Type 0 where
@@ -83,3 +88,14 @@ IsMeant p identities g Zero = IsTextConsequence p identities g
 IsMeant p identities g (NotZero f) = (IsTextConsequence p identities g → ⊥) × IsTextConsequence p identities (difference p g f)
 IsMeant p identities g (NotBuilt n) = Unit {0}
 IsMeant p identities g (OutOfType m) = Unit {0}
+
+-- a nilpotent algebra that satisfies each identity at all vectors, and where the value of `g` is not zero
+pub record IsCounterexample (p : ℕ) (identities : List Poly) (g : Poly) (t : Raw) : Type 0 where
+  pub nilpotent : IsNilpotent p t
+  pub satisfies : Each (Satisfies p t) identities
+  pub nonzero : AreSameVectors p (value t g) [] → ⊥
+
+-- what a table that is shown is
+abbrev pub IsShownMeant : ℕ → List Poly → Poly → Shown → Type 0
+IsShownMeant p identities g (ByTable t) = IsCounterexample p identities g t
+IsShownMeant p identities g other = Unit {0}

@@ -1,5 +1,5 @@
 -- What contracts see of scripts and answers.
-use Rattle.std.specs.Prelude.{◌≡◌, ℕ, ◌≤◌, Bool, true, false, List, length, codes, Option, None, Some, Result, Ok, Err}
+use Rattle.std.specs.Prelude.{◌≡◌, ℕ, ◌≤◌, Bool, true, false, List, ◌++◌, length, codes, Option, None, Some, Result, Ok, Err}
 use Rattle.std.specs.Arc.{arc_value}
 use Rattle.alb_problem.specs.Builder.{Builder}
 use Rattle.alb_problem.specs.Problem.{problem, IsAccepted}
@@ -38,8 +38,9 @@ use Rattle.alb_table.specs.declared.end.BuildEnd.{BuildEnd}
 use Rattle.alb_query.specs.Answer as query
 use Rattle.alb_query.specs.Views.{answer_of}
 use Rattle.alb_query.specs.Answer.{IsOver}
+use Rattle.alb_trace.specs.Proof.{shown, Shows, CanBePrinted}
 use Rattle.alb_answer.specs.Answers.{answer_line, dimension_lines, product_lines, built_line}
-use Rattle.alb_top.specs.Script.{State, NoBlock, letters_of, asked_of, begins_block}
+use Rattle.alb_top.specs.Script.{State, NoBlock, letters_of, asked_of, begins_block, shown_text}
 use Rattle.alb_top.specs.declared.reply.Reply.{Reply}
 use Rattle.alb_top.specs.declared.reply.Reply.TheVariants as reply
 use Rattle.alb_top.specs.declared.reply.Verdict.{Verdict}
@@ -82,6 +83,8 @@ answer (reply.Identity k) = script.NumberedIdentity k
 answer reply.Ready = script.Ready
 answer (reply.Built d e) = script.Told (built_line d (end_of e))
 answer (reply.Answer t a) = script.Told (answer_line (arc_value t).tables.p (arc_value t).problem.letters (arc_value t).tables.degree (answer_of a))
+answer (reply.Proved t a q) = script.Told (answer_line (arc_value t).tables.p (arc_value t).problem.letters (arc_value t).tables.degree (answer_of a)
+    ++ shown_text (arc_value t).tables.p (arc_value t).problem.letters (shown q))
 answer (reply.Dimensions t) = script.Told (dimension_lines (arc_value t).tables)
 answer (reply.Products t) = script.Told (product_lines (arc_value t).problem.letters (arc_value t).tables)
 answer (reply.Refused r) = script.RefusedLine (refusal_text r)
@@ -95,6 +98,8 @@ pub record CanBeWritten (r : Refusal) : Type 0 where
 abbrev pub IsAnswer : Reply → Type 0
 IsAnswer (reply.Refused r) = CanBeWritten r
 IsAnswer (reply.Answer t a) = IsOver (arc_value t).tables.p (length (arc_value t).problem.letters) (answer_of a)
+IsAnswer (reply.Proved t a q) =
+    IsOver (arc_value t).tables.p (length (arc_value t).problem.letters) (answer_of a) × CanBePrinted (arc_value t).tables.p (length (arc_value t).problem.letters) q
 IsAnswer (reply.Products t) = length (arc_value t).tables.target ≤ length (arc_value t).problem.letters
 IsAnswer other = Unit {0}
 
@@ -203,6 +208,9 @@ Begins other q r another = ⊥
 abbrev pub RepliesTo : Topic → Asked → Reply → Type 0
 RepliesTo t (asking.Polynomial g) (reply.Answer s a) =
     (arc_value s ≡ t) × query.IsAnswer t.tables.p (forms t.problem.rules) t.tables.target t.tables.degree g (answer_of a)
+RepliesTo t (asking.Prove g) (reply.Proved s a q) =
+    (arc_value s ≡ t) × query.IsAnswer t.tables.p (forms t.problem.rules) t.tables.target t.tables.degree g (answer_of a)
+    × Shows (forms t.problem.rules) t.tables g (answer_of a) (shown q)
 RepliesTo t asking.Dimensions (reply.Dimensions s) = arc_value s ≡ t
 RepliesTo t asking.Table (reply.Products s) = arc_value s ≡ t
 RepliesTo t other r = ⊥
@@ -244,6 +252,7 @@ pub record IsTimely (f : scripts.Form) (built : Bool) (a : Asked) : Type 0 where
 -- a question
 abbrev pub IsQuestion : Asked → Type 0
 IsQuestion (asking.Polynomial f) = Unit {0}
+IsQuestion (asking.Prove f) = Unit {0}
 IsQuestion asking.Dimensions = Unit {0}
 IsQuestion asking.Table = Unit {0}
 IsQuestion other = ⊥

@@ -4,7 +4,7 @@ ghost use Rattle.std.specs.Arc.{arc_value};
 ghost use Rattle.alb_poly.specs.Rules.{forms};
 ghost use Rattle.alb_problem.specs.Problem.{IsAccepted};
 ghost use Rattle.alb_script.specs.Asked.{view, HasRead, IsRead};
-ghost use Rattle.alb_script.specs.Asked.{Polynomial};
+ghost use Rattle.alb_script.specs.Asked.{Polynomial, Prove};
 ghost use Rattle.alb_top.specs.View.{IsAnswer, IsProgram, IsTopic, IsQuestion, Begins, RepliesTo};
 
 use crate::reply::{Reply, Topic};
@@ -15,6 +15,7 @@ use alb_poly::Poly;
 use alb_problem::Problem;
 use alb_query::answer;
 use alb_script::{Command, Form};
+use alb_trace::prove;
 use std::alloc::Global;
 use std::sync::Arc;
 
@@ -55,6 +56,17 @@ fn reply_about(alloc: Global, topic: &Arc<Topic>, g: &Poly) -> Result<Reply, NoM
     Ok(Reply::Answer(Arc::try_clone(topic)?, reply))
 }
 
+// The answer to a question about a polynomial, and what shows it.
+fn proof_about(alloc: Global, topic: &Arc<Topic>, g: &Poly) -> Result<Reply, NoMemory>
+    requires topic { IsTopic (arc_value topic.now) }
+    requires read { IsRead (arc_value topic.now).problem.rules.field (length (arc_value topic.now).problem.letters) g.now }
+    ensures replies { IfOk result (λ r. RepliesTo (arc_value topic.now) (Prove g.now) r) }
+    ensures fine { IfOk result (λ r. IsAnswer r) }
+{
+    let (reply, proof) = prove(alloc, &topic.problem.rules, &topic.tables, g)?;
+    Ok(Reply::Proved(Arc::try_clone(topic)?, reply, proof))
+}
+
 /// The answer to a question.
 pub fn reply_to(alloc: Global, topic: &Arc<Topic>, command: &Command) -> Result<Reply, NoMemory>
     requires topic { IsTopic (arc_value topic.now) }
@@ -65,6 +77,7 @@ pub fn reply_to(alloc: Global, topic: &Arc<Topic>, command: &Command) -> Result<
 {
     match command {
         Command::Polynomial(g) => reply_about(alloc, topic, g),
+        Command::Prove(g) => proof_about(alloc, topic, g),
         Command::Dimensions => Ok(Reply::Dimensions(Arc::try_clone(topic)?)),
         Command::Table => Ok(Reply::Products(Arc::try_clone(topic)?)),
         _ => unreachable!(),

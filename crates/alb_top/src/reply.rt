@@ -7,6 +7,7 @@ use alb_problem::Problem;
 use alb_query::Reply as Answer;
 use alb_script::Refusal;
 use alb_table::{BuildEnd, Tables};
+use alb_trace::Proof;
 use std::sync::Arc;
 
 /// Why the evidence for a claim is rejected. Lines are counted from 1: for the first two in the block, for the others in
@@ -62,6 +63,8 @@ pub enum Reply {
     Built(u32, BuildEnd),
     /// The answer to a question about a polynomial.
     Answer(Arc<Topic>, Answer),
+    /// The same, with what shows it.
+    Proved(Arc<Topic>, Answer, Proof),
     /// The dimensions of the table.
     Dimensions(Arc<Topic>),
     /// The products of the table.

@@ -359,9 +359,8 @@ impl Script {
             Command::Blank => Ok((Reply::Nothing, self)),
             Command::Build => self.build(alloc),
             Command::Quit => Ok((Reply::Nothing, self.close())),
-            Command::Polynomial(_) | Command::Dimensions | Command::Table => {
-                self.answer(alloc, command)
-            }
+            Command::Polynomial(_) | Command::Prove(_) | Command::Dimensions | Command::Table =>
+                self.answer(alloc, command),
             statement => self.state(statement),
         }
     }

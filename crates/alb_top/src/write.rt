@@ -1,4 +1,4 @@
-ghost use Rattle.std.specs.Prelude.{◌≡◌, ◌∷◌, decimal, length};
+ghost use Rattle.std.specs.Prelude.{◌≡◌, ◌∷◌, ◌++◌, decimal, length};
 ghost use Rattle.std.specs.List.{flat_map};
 ghost use Rattle.alb_io.specs.Causes.{HasCause};
 ghost use Rattle.alb_io.specs.Puts.{Puts};
@@ -7,16 +7,19 @@ ghost use Rattle.alb_query.specs.Views.{answer_of};
 ghost use Rattle.alb_query.specs.Answer.{IsOver};
 ghost use Rattle.alb_answer.specs.Answers.{answer_line};
 ghost use Rattle.alb_top.specs.Verdict.{numbered, verdict_text, failure_text, places_text};
-ghost use Rattle.alb_top.specs.Script.{text_of};
+ghost use Rattle.alb_top.specs.Script.{shown_text, text_of};
+ghost use Rattle.alb_trace.specs.Proof.{shown, CanBePrinted};
 ghost use Rattle.alb_top.specs.View.{rejection_text, judgement, answer, IsAnswer};
 
 use crate::reply::{Rejection, Reply, Topic, Verdict};
 use alb_answer::{write_answer, write_built, write_dimensions, write_products};
+use alb_evidence::{write_lines, write_table};
 use alb_io::{Sink, WriteFault, put_all};
 use alb_mono::Letters;
 use alb_print::write_count;
 use alb_query::Reply as Answer;
 use alb_script::write_refusal;
+use alb_trace::Proof;
 
 /// Writes what is answered. No refusal prints by the generators' letters.
 pub fn write_reply<K: Sink>(sink: &mut K, reply: &Reply) -> Result<(), WriteFault>
@@ -32,6 +35,7 @@ pub fn write_reply<K: Sink>(sink: &mut K, reply: &Reply) -> Result<(), WriteFaul
         Reply::Ready => put_all(sink, b"ready\n"),
         Reply::Built(degree, end) => write_built(sink, *degree, end),
         Reply::Answer(topic, answer) => write_to_question(sink, topic, answer),
+        Reply::Proved(topic, answer, proof) => write_proved(sink, topic, answer, proof),
         Reply::Dimensions(topic) => write_dimensions(sink, &topic.tables),
         Reply::Products(topic) => write_products(sink, &topic.problem.letters, &topic.tables),
         Reply::Refused(refusal) => write_refusal(sink, &Letters::all(), refusal),
@@ -58,6 +62,39 @@ fn write_to_question<K: Sink>(
         tables.degree(),
         answer,
     )
+}
+
+// Writes the answer to a question about a polynomial, and what shows it.
+fn write_proved<K: Sink>(
+    sink: &mut K,
+    topic: &Topic,
+    answer: &Answer,
+    proof: &Proof,
+) -> Result<(), WriteFault>
+    requires over { IsOver topic.now.tables.p (length topic.now.problem.letters) (answer_of answer.now) }
+    requires printed { CanBePrinted topic.now.tables.p (length topic.now.problem.letters) proof.now }
+    ensures puts { Puts result (K.taken sink.old) (K.taken sink.new) (answer_line topic.now.tables.p topic.now.problem.letters topic.now.tables.degree (answer_of answer.now)
+        ++ shown_text topic.now.tables.p topic.now.problem.letters (shown proof.now)) }
+    ensures same_name { K.name sink.new ≡ K.name sink.old }
+    ensures cause { HasCause (K.faults sink.old) (K.faults sink.new) result }
+{
+    write_to_question(sink, topic, answer)?;
+    write_proof(sink, topic, proof)
+}
+
+// Writes what shows an answer.
+fn write_proof<K: Sink>(sink: &mut K, topic: &Topic, proof: &Proof) -> Result<(), WriteFault>
+    requires { CanBePrinted topic.now.tables.p (length topic.now.problem.letters) proof.now }
+    ensures puts { Puts result (K.taken sink.old) (K.taken sink.new) (shown_text topic.now.tables.p topic.now.problem.letters (shown proof.now)) }
+    ensures same_name { K.name sink.new ≡ K.name sink.old }
+    ensures cause { HasCause (K.faults sink.old) (K.faults sink.new) result }
+{
+    let Topic { problem, tables } = topic;
+    match proof {
+        Proof::Lines(lines) => write_lines(sink, tables.field(), &problem.letters, lines),
+        Proof::Table(table) => write_table(sink, tables.field(), &problem.letters, table),
+        Proof::Nothing => Ok(()),
+    }
 }
 
 fn write_verdict<K: Sink>(sink: &mut K, verdict: &Verdict) -> Result<(), WriteFault>

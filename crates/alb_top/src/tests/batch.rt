@@ -99,12 +99,12 @@ fn lines_that_a_batch_refuses(rt: HostRuntime) -> Result<(), Fail> {
     let alloc = rt.alloc();
     for (script, text) in [
         (
-            b"table;dimensions;polynomial a;build;quit".as_slice(),
-            b"refused 81;refused 81;refused 81;refused 43".as_slice(),
+            b"table;dimensions;polynomial a;prove a;build;quit".as_slice(),
+            b"refused 81;refused 81;refused 81;refused 81;refused 43".as_slice(),
         ),
         (
-            b"generators 1a;build;table x;dimensions ?;prove a;claim a;end;await 1;build;identity xx;table",
-            b"ok;built 1;refused 83 at 7;refused 83 at 12;refused 80;refused 80;refused 80;refused 80;refused 82;refused 82;[1] table 0",
+            b"generators 1a;build;table x;dimensions ?;prove;claim a;end;await 1;build;identity xx;table",
+            b"ok;built 1;refused 83 at 7;refused 83 at 12;refused 20 at 6;refused 80;refused 80;refused 80;refused 82;refused 82;[1] table 0",
         ),
         (
             b"generators 1a;build; # no line;;polynomial 0;quit;polynomial a",
@@ -194,6 +194,109 @@ fn a_batch_whose_calls_fail(rt: HostRuntime) -> Result<(), Fail> {
         assert!(rt; text.starts_with(&written));
         assert!(rt; written.len() < text.len());
         assert_eq!(rt; status, Status::WriteFault);
+    }
+    Ok(())
+}
+
+#[test]
+fn proofs(rt: HostRuntime) -> Result<(), Fail> {
+    let alloc = rt.alloc();
+    for (script, text) in [
+        (
+            b"identity (x,y,z);generators 1a1b;build;prove ab-ba".as_slice(),
+            b"identity 1;ok;built 2;[2] not zero: -ba + ab;table (1,1);element 1 (1,0);element 2 (0,1);element 3 (1,1);element 4 (1,1);generator a 1;generator b 2;entry 1 2 3 1;entry 2 1 4 1;end".as_slice(),
+        ),
+        (
+            b"generators 2a1b;build;prove ab + aab + 3b;prove a",
+            b"ok;built 3;[3] not zero: (aa)b + ab + 3b;table (0,1);element 1 (0,1);generator b 1;end;[3] not zero: a;table (1,0);element 1 (1,0);generator a 1;end",
+        ),
+        (
+            b"generators 10a;build;prove a-a;prove a^10;prove b;prove a^11",
+            b"ok;built 9, stopped: 4862 products of type (10);[9] zero;derivation;end;[9] not built: degree 10;refused 21 at 7;[9] out of type: (((((((((aa)a)a)a)a)a)a)a)a)a",
+        ),
+    ] {
+        assert!(rt; tells(&rt, alloc, script, text)?);
+    }
+    Ok(())
+}
+
+// What stands behind the last line that begins with this text, and behind the end of that line.
+fn behind<'a>(text: &'a [u8], front: &[u8]) -> &'a [u8] {
+    let mut rest = text;
+    for i in 0..text.len() {
+        if text[i..].starts_with(front) {
+            rest = &text[i..];
+        }
+    }
+    match rest.iter().position(|b| *b == b'\n') {
+        Some(k) => &rest[k + 1..],
+        None => &rest[..0],
+    }
+}
+
+// The lines of a problem and a claim with a block behind it.
+fn claimed(alloc: Global, stated: &[u8], claim: &[u8], block: &[u8]) -> Result<Vec<u8>, Fail> {
+    joined(
+        alloc,
+        &[stated, b"claim ".as_slice(), claim, b"\n".as_slice(), block],
+    )
+}
+
+// What a batch proves of a polynomial, behind this answer, has this verdict in a check.
+fn is_judged<R: Threads>(
+    rt: &R,
+    alloc: Global,
+    problem: &[u8],
+    claim: &[u8],
+    answer: &[u8],
+    verdict: &[u8],
+) -> Result<bool, Fail> {
+    let stated = lines(alloc, problem)?;
+    let asked = joined(
+        alloc,
+        &[
+            stated.as_slice(),
+            b"prove ".as_slice(),
+            claim,
+            b"\n".as_slice(),
+        ],
+    )?;
+    let (told, _) = batch(rt, alloc, &asked)?;
+    let script = claimed(alloc, &stated, claim, behind(&told, answer))?;
+    let (judged, status) = run(rt, alloc, &["check"], &script, &[], &[])?;
+    Ok(status == Status::Done && judged.as_slice().ends_with(verdict))
+}
+
+#[test]
+fn what_a_batch_proves_a_check_accepts(rt: HostRuntime) -> Result<(), Fail> {
+    let alloc = rt.alloc();
+    for (problem, claim, answer, verdict) in [
+        (
+            b"identity (x,x,y);identity (y,x,x);generators 2a1b1c;build;".as_slice(),
+            b"((ab)a)c - a(b(ac))".as_slice(),
+            b"[4] zero\n".as_slice(),
+            b"accepted zero\n".as_slice(),
+        ),
+        (
+            b"identity [x,y];identity ((xx)y)x - (xx)(yx);generators 4a1b;build;",
+            b"((aa)a)a - (aa)(aa)",
+            b"[5] zero\n",
+            b"accepted zero\n",
+        ),
+        (
+            b"identity (x,x,y);identity (y,x,x);generators 2a1b1c;build;",
+            b"2((ab)a)c - a(b(ac)) - (a,b,c)",
+            b"[4] not zero: ",
+            b"accepted not zero\n",
+        ),
+        (
+            b"field 7;identity xx;generators 1a1b1c;build;",
+            b"(ab)c - (bc)a + 3ab",
+            b"[3] not zero: ",
+            b"accepted not zero\n",
+        ),
+    ] {
+        assert!(rt; is_judged(&rt, alloc, problem, claim, answer, verdict)?);
     }
     Ok(())
 }

@@ -1,0 +1,9 @@
+pub mod Adds
+pub mod Given
+pub mod Origins
+pub mod Trace
+pub mod Recipes
+pub mod Answer
+pub mod Proof
+pub mod Laws
+pub mod FirstType
