@@ -1,4 +1,5 @@
 mod batch;
+mod entries;
 
 use crate::run_albert;
 use alb_io::{MemDesk, MemSink, MemSource, Status};
