@@ -99,7 +99,12 @@ fn lines_of_other_forms(rt: HostRuntime) -> Result<(), Fail> {
         (Form::Batch, false, "table", "the problem is not yet built"),
         (Form::Batch, true, "table", "table"),
         (Form::Batch, true, "prove a", "prove 1"),
-        (Form::Batch, false, "prove a", "the problem is not yet built"),
+        (
+            Form::Batch,
+            false,
+            "prove a",
+            "the problem is not yet built",
+        ),
         (Form::Batch, true, "polynomial a", "polynomial 1"),
         (Form::Session, true, "prove a", "prove 1"),
         (Form::Batch, true, "await 2", "unknown command"),
