@@ -12,7 +12,8 @@ use Rattle.gf_sums.proofs.Totals.{weigh-equal}
 use Rattle.gf_sums.proofs.Alike.{Alike, equal, turned, joined, weigh-reindex}
 use Rattle.alb_mono.specs.Listing.{Each}
 use Rattle.alb_mono.specs.Tree.{Tree, leaf, node, degree, type_of, type_le, are_below, same_tree}
-use Rattle.alb_mono.proofs.Leaves.{and_left, and_right, below_from_test, length-type_of}
+use Rattle.alb_mono.proofs.Both.{and_left, and_right}
+use Rattle.alb_mono.proofs.Leaves.{below_from_test, length-type_of}
 use Rattle.alb_poly.specs.Algebra.{evaluate, evaluate_poly, unit}
 use Rattle.alb_poly.specs.Poly.{Poly}
 use Rattle.alb_poly.specs.Instance.{Form, fill, instance, IsMultilinear}

@@ -15,7 +15,8 @@ use Rattle.gf_sums.specs.Sums.{coefficient}
 use Rattle.gf_sums.proofs.Alike.{Alike, joined}
 use Rattle.alb_mono.specs.Listing.{Each}
 use Rattle.alb_mono.specs.Tree.{Tree, type_of, type_le, are_below, cmp_types, same_tree}
-use Rattle.alb_mono.proofs.Leaves.{and_left, and_right, length-type_of}
+use Rattle.alb_mono.proofs.Both.{and_left, and_right}
+use Rattle.alb_mono.proofs.Leaves.{length-type_of}
 use Rattle.alb_mono.proofs.Order.{cmp_types_total}
 use Rattle.alb_poly.specs.Poly.{Poly, list_eq, part}
 use Rattle.alb_poly.specs.Instance.{Form}

@@ -7,7 +7,7 @@ use Rattle.std.proofs.lemmas.List.{map-append, get_or-map, take_more}
 use Rattle.alb_mono.specs.Types.{rising, type_minus}
 use Rattle.alb_mono.specs.Tree.{type_le, type_plus}
 use Rattle.alb_mono.specs.Listing.{Each}
-use Rattle.alb_mono.proofs.Leaves.{and_left, and_right}
+use Rattle.alb_mono.proofs.Both.{and_left, and_right}
 use Rattle.alb_mono.proofs.ListingLemmas.{each-at}
 use Rattle.alb_poly.proofs.Consequence.{flat-append}
 use Rattle.alb_linear.proofs.LinearLemmas.{each_from_all}

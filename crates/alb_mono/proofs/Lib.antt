@@ -1,3 +1,4 @@
+pub mod Both
 pub mod Leaves
 pub mod Order
 pub mod TypeLemmas

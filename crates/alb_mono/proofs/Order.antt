@@ -5,7 +5,8 @@ use Rattle.std.specs.Cmp.{IsTotalOrder}
 use Rattle.std.specs.Ordering.{nat_cmp, ordering_then, ordering_reverse}
 use Rattle.std.specs.declared.cmp.Ordering.TheVariants.{Less, Equal, Greater}
 use Rattle.std.proofs.lemmas.Cmp.{nat_cmp_total, on_total, then_total, back_total, nat_list_cmp_total, tied_itself, alike_right, ranked, by_ranked}
-use Rattle.alb_mono.proofs.Leaves.{sum-type_of, and_left, and_right}
+use Rattle.alb_mono.proofs.Both.{and_left, and_right}
+use Rattle.alb_mono.proofs.Leaves.{sum-type_of}
 use Rattle.alb_mono.specs.Tree.{Tree, leaf, node, degree, are_below, type_of, cmp_types, cmp_trees, cmp_monos, same_tree}
 
 pub cmp_types_total : IsTotalOrder cmp_types

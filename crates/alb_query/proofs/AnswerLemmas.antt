@@ -5,7 +5,7 @@ use Rattle.std.proofs.lemmas.Bool.{cases_Bool}
 use Rattle.std.proofs.lemmas.Bool.Decides.{nat_tests}
 use Rattle.alb_mono.specs.Listing.{Each}
 use Rattle.alb_mono.specs.Tree.{Tree, degree, are_below}
-use Rattle.alb_mono.proofs.Leaves.{and_left, and_right}
+use Rattle.alb_mono.proofs.Both.{and_left, and_right}
 use Rattle.alb_poly.specs.Consequence.{IsConsequence}
 use Rattle.alb_poly.specs.Instance.{Form}
 use Rattle.alb_poly.specs.Poly.{Poly, greatest_degree}

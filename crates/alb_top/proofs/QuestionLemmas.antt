@@ -4,7 +4,8 @@ use Rattle.std.specs.Prelude.{IsTrue, All, if◌then◌else◌}
 use Rattle.gf_field.proofs.Table.{IsPrime-from_table}
 use Rattle.alb_mono.specs.Listing.{Each}
 use Rattle.alb_mono.specs.Tree.{Tree, are_below, type_of, type_le}
-use Rattle.alb_mono.proofs.Leaves.{below_from_test, and_left, and_right}
+use Rattle.alb_mono.proofs.Both.{and_left, and_right}
+use Rattle.alb_mono.proofs.Leaves.{below_from_test}
 use Rattle.alb_poly.specs.Poly.{Poly, greatest_degree}
 use Rattle.alb_poly.specs.Instance.{Form}
 use Rattle.alb_poly.specs.Identity.{IsAtMost, IsWithin}
