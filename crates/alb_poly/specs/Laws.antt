@@ -1,13 +1,14 @@
 -- The laws of polynomials and consequences.
-use Rattle.std.specs.Prelude.{◌≡◌, ◌<◌, ℕ, ◌++◌, List, length}
+use Rattle.std.specs.Prelude.{◌≡◌, ◌<◌, ◌↔◌, ℕ, ◌++◌, IsTrue, List, length}
 use Rattle.gf_sums.specs.Sums.{scale, reindex, IsCanonical}
 use Rattle.alb_mono.specs.Tree.{Tree, cmp_monos}
 use Rattle.alb_mono.specs.declared.side.Side.{Side}
-use Rattle.alb_poly.specs.Poly.{Poly, IsSamePoly}
+use Rattle.alb_poly.specs.Poly.{Poly, IsSamePoly, has_type, part}
 use Rattle.alb_poly.specs.Normal.{normal}
 use Rattle.alb_poly.specs.Context.{beside}
 use Rattle.alb_poly.specs.Instance.{Form, instance}
-use Rattle.alb_poly.specs.Consequence.{IsConsequence, form_at}
+use Rattle.alb_poly.specs.Identity.{HasType}
+use Rattle.alb_poly.specs.Consequence.{IsConsequence, IsConsequenceOfType, AreMultilinear, form_at}
 
 -- sums, multiples and products with a monomial of consequences are consequences
 pub record ConsequencesAreClosed (p : ℕ) (fs : List Form) : Type 0 where
@@ -26,3 +27,12 @@ pub record IsNormalForm (p : ℕ) (f g : Poly) : Type 0 where
 
 abbrev pub NormalFormLaw : Type 0
 NormalFormLaw = (p : ℕ) (f : Poly) → 0 < p → IsNormalForm p f (normal p f) × ((g : Poly) → IsNormalForm p f g → g ≡ normal p f)
+
+-- the test of types is true of the monomials that have the type, and of no others
+abbrev pub TypesAreTested : Type 0
+TypesAreTested = (e : List ℕ) (m : Tree) → IsTrue (has_type e m) ↔ HasType e m
+
+-- a polynomial is a consequence exactly where each of its homogeneous parts is, by items of its type
+abbrev pub PartsDecide : Type 0
+PartsDecide = (p : ℕ) (fs : List Form) (g : Poly) → AreMultilinear fs
+    → IsConsequence p fs g ↔ ((e : List ℕ) → IsConsequenceOfType p fs e (part e g))
