@@ -30,3 +30,4 @@ pub mod Numbers
 pub mod LawLemmas
 pub mod RightTables
 pub mod FirstRight
+pub mod RightForLemmas
