@@ -8,10 +8,9 @@ use Rattle.alb_lex.specs.declared.token.TokenKind.TheVariants as kinds
 use Rattle.alb_poly.specs.Poly.{Poly}
 use Rattle.alb_syntax.specs.Grammar.{Class, Denotes, Makes, Atom, Power, Juxt, Jordan, Term, Sum}
 use Rattle.alb_syntax.specs.Grammar as grammar
-use Rattle.alb_syntax.proofs.Again.{denoted-again}
 use Rattle.alb_print.specs.Text.{mono_text}
 use Rattle.alb_mono.specs.Letters.{AreLetters}
-use Rattle.alb_print.specs.Laws.{MonomialsReadBack}
+use Rattle.alb_print.specs.Laws.{MonomialsDenoteThemselves}
 use Rattle.alb_print.proofs.Spelled.{Spelled, spelled-one, spelled-both, spelled-all, letter_is}
 use Rattle.alb_print.proofs.Values.{times-monomials}
 
@@ -69,7 +68,7 @@ module _ (p : ℕ) (ls : List ℕ) (are : AreLetters ls) (one : 1 < p) where
       (factor 64 l bs.0 (omega (arith, degree_pos r)) (omega (arith, degree_pos r))) (factor 64 r bs.1 (omega (arith, degree_pos l)) (omega (arith, degree_pos l)))
       (λ us vs dl dr. pair 64 l r us vs small dl dr)
 
-pub monomials-read_back : MonomialsReadBack
-monomials-read_back p letters m one are below small at =
+pub monomials-denote : MonomialsDenoteThemselves
+monomials-denote p letters m one are below small at =
     let u = spelled-all (mono_text letters false m) (λ ts. Denotes p letters Juxt 64 ts ((1, m) ∷ [])) (whole p letters are one m below small) at in
-    (u.0, u.2, λ end. denoted-again (record { field = p; letters = letters; end = end }) u.0 ((1, m) ∷ []) (sum_of p letters are one 64 u.0 ((1, m) ∷ []) u.1))
+    (u.0, u.2, sum_of p letters are one 64 u.0 ((1, m) ∷ []) u.1)

@@ -1,11 +1,12 @@
 -- A printed monomial spells that monomial, in the grammar of monomials by themselves.
-use Rattle.std.proofs.Common.{◌≡◌, ℕ, zero, suc, ◌+◌, ◌≤◌, true, false, List, [], ◌∷◌, ◌++◌, length, refl, sym, ap, subst, arith}
+use Rattle.std.proofs.Common.{◌≡◌, ℕ, zero, suc, ◌+◌, ◌≤◌, true, false, List, [], ◌∷◌, ◌++◌, length, Ok, refl, sym, ap, subst, arith}
 use Rattle.std.specs.Prelude.{slice_index}
 use Rattle.alb_mono.specs.Letters.{AreLetters}
 use Rattle.alb_mono.specs.Tree.{Tree, leaf, node, degree, are_below}
+use Rattle.alb_lex.specs.Lexing.{tokens_from}
 use Rattle.alb_lex.specs.declared.token.Token.{Token}
 use Rattle.alb_lex.specs.declared.token.TokenKind.TheVariants as kinds
-use Rattle.alb_syntax.specs.Monomials.{Spells, Part, Product}
+use Rattle.alb_syntax.specs.Monomials.{Spells, Part, Product, mono_denoted}
 use Rattle.alb_syntax.specs.Monomials as grammar
 use Rattle.alb_syntax.proofs.Monomials.{mono-again}
 use Rattle.alb_print.specs.Text.{mono_text}
@@ -49,7 +50,13 @@ module _ (ls : List ℕ) (are : AreLetters ls) where
       (factor 64 l bs.0 (omega (arith, degree_pos r)) (omega (arith, degree_pos r))) (factor 64 r bs.1 (omega (arith, degree_pos l)) (omega (arith, degree_pos l)))
       (λ us vs dl dr. pair 64 l r us vs small dl dr)
 
-pub monomials-spell_themselves : MonomialsSpellThemselves
-monomials-spell_themselves letters m are below small at =
+pub monomials-spell : MonomialsSpellThemselves
+monomials-spell letters m are below small at =
     let u = spelled-all (mono_text letters false m) (λ ts. Spells letters Product 64 ts m) (whole letters are m below small) at in
-    (u.0, u.2, λ end. mono-again (record { letters = letters; end = end }) u.0 m u.1)
+    (u.0, u.2, u.1)
+
+-- so it is read again
+pub monomials-spell_themselves : (letters : List ℕ) (m : Tree) → AreLetters letters → are_below (length letters) m ≡ true → degree m ≤ 64 → (at : ℕ)
+    → (ts : List Token) × (tokens_from false at (mono_text letters false m) ≡ Ok ts) × ((end : ℕ) → mono_denoted (record { letters = letters; end = end }) ts ≡ Ok m)
+monomials-spell_themselves letters m are below small at =
+    let u = monomials-spell letters m are below small at in (u.0, u.1, λ end. mono-again (record { letters = letters; end = end }) u.0 m u.2)
