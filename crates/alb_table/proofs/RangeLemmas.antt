@@ -13,10 +13,11 @@ use Rattle.alb_mono.specs.Types.{rising, splits, IsSplit}
 use Rattle.alb_mono.proofs.ListingLemmas.{each-member, in-map, in-flat}
 use Rattle.alb_mono.proofs.TypesListing.{splits-listing}
 use Rattle.alb_poly.specs.Poly.{list_eq}
+use Rattle.alb_linear.proofs.IdentityLemmas.{list_eq-sound, list_eq-itself}
 use Rattle.alb_table.specs.PartView.{PartView, first_of, dim_of, elems, types, type_at, entries_at}
 use Rattle.alb_table.specs.Grid.{rectangle, same_pair, find_entry}
 use Rattle.alb_table.specs.Entry.{products}
-use Rattle.alb_table.proofs.PartLemmas.{elems_step, first_here, first_step, list_eq-sound, list_eq-itself, no_part, number_at}
+use Rattle.alb_table.proofs.PartLemmas.{elems_step, first_here, first_step, no_part, number_at}
 use Rattle.alb_table.proofs.TypesTo.{in-rising, apart, degrees_rise}
 
 abbrev pub ats : List PartView → List (List ℕ)

@@ -1,6 +1,6 @@
 -- The rectangles of a type by their left numbers.
-use Rattle.std.proofs.Common.{◌≡◌, ℕ, zero, suc, ◌+◌, ◌*◌, ◌<◌, ◌≤◌, Bool, true, false, List, [], ◌∷◌, length, get_or, sym, refl, ap, ◌∙◌, arith, inl, inr, ◌⊎◌, subst, sum}
-use Rattle.std.specs.Prelude.{Some, None, ◌&&◌, nat_le}
+use Rattle.std.proofs.Common.{◌≡◌, ℕ, zero, suc, ◌+◌, ◌*◌, ◌<◌, ◌≤◌, true, false, List, [], ◌∷◌, length, get_or, sym, refl, ap, ◌∙◌, arith, inl, inr, ◌⊎◌, subst, sum}
+use Rattle.std.specs.Prelude.{Some, None, nat_le}
 use Rattle.std.specs.declared.cmp.Ordering.TheVariants.{Less}
 use Rattle.std.proofs.lemmas.Bool.{cases_Bool}
 use Rattle.std.proofs.lemmas.Bool.Decides.{nat_tests}
@@ -8,16 +8,18 @@ use Rattle.alb_mono.specs.Listing.{Each, IsIn, Ascends}
 use Rattle.alb_mono.specs.Tree.{type_le, cmp_types}
 use Rattle.alb_mono.specs.Types.{IsTypeWithin, splits, IsSplit}
 use Rattle.alb_mono.proofs.ListingLemmas.{each-weaker, each-member, each-both, each-always}
+use Rattle.alb_mono.proofs.Both.{both_tests}
 use Rattle.alb_mono.proofs.TypesListing.{splits-listing, le-plus}
 use Rattle.alb_mono.proofs.Order.{cmp_types_total}
 use Rattle.alb_poly.specs.Poly.{list_eq}
+use Rattle.alb_linear.proofs.IdentityLemmas.{list_eq-sound, list_eq-itself}
 use Rattle.alb_table.specs.declared.grid.Grid.{Grid}
 use Rattle.alb_table.specs.Grid.{covers, first_cover, Rises}
 use Rattle.alb_table.specs.PartView.{PartView, first_of, dim_of}
 use Rattle.alb_table.specs.Stored.{grids_from}
 use Rattle.alb_table.specs.Table.{Table, IsTable}
 use Rattle.alb_table.proofs.GridLemmas.{Covers, covers_fact}
-use Rattle.alb_table.proofs.PartLemmas.{first_here, first_step, list_eq-sound, list_eq-itself, sum-plus}
+use Rattle.alb_table.proofs.PartLemmas.{first_here, first_step, sum-plus}
 use Rattle.alb_table.proofs.RangeLemmas.{ats}
 use Rattle.alb_table.proofs.TableLemmas.{types_ascend}
 use Rattle.alb_table.proofs.TypesTo.{types_to-all, apart}
@@ -57,10 +59,6 @@ rises_from parts m n (s ∷ ss) o a i h = (
       (λ q k. ranges_rise parts s.0 q.0 o i.0 k.1 k.0)
       (each-both (λ (q : List ℕ × List ℕ). cmp_types s.0 q.0 ≡ Less) (λ (q : List ℕ × List ℕ). IsIn q.0 (ats parts)) ss a.0 i.1)),
 )
-
-both_tests : (a b : Bool) → (a && b) ≡ true → (a ≡ true) × (b ≡ true)
-both_tests true b h = (refl, h)
-both_tests false b h = absurd (cc)
 
 le_trans : (xs ys zs : List ℕ) → length xs ≡ length ys → length ys ≡ length zs → type_le xs ys ≡ true → type_le ys zs ≡ true → type_le xs zs ≡ true
 le_trans [] ys zs e f h k = refl

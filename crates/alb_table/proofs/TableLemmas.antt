@@ -12,6 +12,7 @@ use Rattle.alb_mono.proofs.ListingLemmas.{each-weaker, each-append, each-member,
 use Rattle.alb_mono.proofs.TypeLemmas.{length-type_plus, rising_more}
 use Rattle.alb_mono.proofs.TypesListing.{types_of-listing}
 use Rattle.alb_poly.specs.Poly.{list_eq}
+use Rattle.alb_linear.proofs.IdentityLemmas.{list_eq-itself}
 use Rattle.alb_rows.specs.Row.{Cells}
 use Rattle.alb_table.specs.declared.part.Elem.{Elem}
 use Rattle.alb_table.specs.declared.part.Elem.TheVariants.{Gen}
@@ -21,7 +22,7 @@ use Rattle.alb_table.specs.Grid.{same_pair, find_entry}
 use Rattle.alb_table.specs.Table.{Table, IsTable, IsPartOf, IsElementOf, IsRowAmong, IsCountable, CoversType, types_to, extended}
 use Rattle.alb_table.specs.Value.{IsVector}
 use Rattle.alb_table.proofs.GridLemmas.{find_empty}
-use Rattle.alb_table.proofs.PartLemmas.{sum-plus, list_eq-itself, products-extend}
+use Rattle.alb_table.proofs.PartLemmas.{sum-plus, products-extend}
 use Rattle.alb_table.proofs.TypesTo.{IsTypeTo, types_to-each, types_to-all, types_to-ascends, counts_small}
 use Rattle.alb_table.proofs.RangeLemmas.{ats, type_in, number_in_range, product_in, found_in, entries_full, entries_where, range_within}
 
@@ -103,7 +104,8 @@ some_from None P Q s f = tt
 
 -- ---- entries as vectors
 
-find_each : (P : Cells → Type 0) (k : ℕ × ℕ) (xs : List (ℕ × ℕ)) (es : List Cells) (e : Cells) → Each P es → find_entry k xs es ≡ Some e → P e
+-- what holds of each entry holds of the entry of a product
+pub find_each : (P : Cells → Type 0) (k : ℕ × ℕ) (xs : List (ℕ × ℕ)) (es : List Cells) (e : Cells) → Each P es → find_entry k xs es ≡ Some e → P e
 find_each P k [] es e h q = absurd (cc)
 find_each P k (x ∷ xs) [] e h q = absurd (cc)
 find_each P k (x ∷ xs) (d ∷ es) e h q = elim (cases_Bool (same_pair x k)) [

@@ -1,6 +1,7 @@
 -- Products and values of rows.
 use Rattle.std.proofs.Common.{◌≡◌, ℕ, ◌+◌, ◌*◌, ◌%◌, ◌<◌, List, [], ◌∷◌, ◌++◌, length, take, get_or, nat_eq, sym, refl, ap, ◌∙◌, arith, append_assoc, subst}
 use Rattle.std.specs.Prelude.{Option, Some, None, unwrap_or, ◌↔◌}
+use Rattle.std.proofs.lemmas.Bool.Decides.{nat_tests}
 use Rattle.std.proofs.lemmas.List.{take_more, map-append, append-nil}
 use Rattle.std.proofs.lemmas.List.Concat.{flat_map-append}
 use Rattle.gf_field.specs.Modular.{IsSameMod}
@@ -10,10 +11,12 @@ use Rattle.gf_sums.proofs.Alike.{Alike, alike-same, same-alike, joined, turned, 
 use Rattle.alb_rows.specs.Row.{Cells, comb, AreSameVector}
 use Rattle.alb_rows.proofs.RowLemmas.{told, zero_is_empty, empty_is_zero}
 use Rattle.alb_mono.specs.Mono.{tree}
-use Rattle.alb_mono.specs.Tree.{Tree, leaf, node}
+use Rattle.alb_mono.specs.Listing.{Each}
+use Rattle.alb_mono.specs.Tree.{Tree, leaf, node, AreBelow}
 use Rattle.alb_poly.specs.declared.term.Term.{Term}
 use Rattle.alb_poly.specs.Terms.{term, terms}
-use Rattle.alb_poly.specs.Algebra.{evaluate}
+use Rattle.alb_poly.specs.Algebra.{evaluate, evaluate_poly, unit}
+use Rattle.alb_poly.specs.Poly.{Poly}
 use Rattle.alb_table.specs.PartView.{PartView}
 use Rattle.alb_table.specs.Entry.{entry_of, table_product}
 use Rattle.alb_table.specs.Table.{Table}
@@ -86,6 +89,18 @@ pub evaluate-same : (prod : ℕ → ℕ → Comb ℕ) (v w : ℕ → Comb ℕ) (
 evaluate-same prod v w (leaf k) h = h k
 evaluate-same prod v w (node l r) h =
     ap (λ (f : Comb ℕ). multiply prod f (evaluate prod v r)) (evaluate-same prod v w l h) ∙ ap (multiply prod (evaluate prod w l)) (evaluate-same prod v w r h)
+
+-- so do vectors that are equal at the letters that occur
+pub evaluate-below : (prod : ℕ → ℕ → Comb ℕ) (v w : ℕ → Comb ℕ) (n : ℕ) (m : Tree) → ((k : ℕ) → k < n → v k ≡ w k) → AreBelow n m → evaluate prod v m ≡ evaluate prod w m
+evaluate-below prod v w n (leaf k) h b = h k b
+evaluate-below prod v w n (node l r) h b = rw (evaluate-below prod v w n l h b.0, evaluate-below prod v w n r h b.1) refl
+
+pub poly-below : (prod : ℕ → ℕ → Comb ℕ) (v w : ℕ → Comb ℕ) (n : ℕ) (g : Poly) → ((k : ℕ) → k < n → v k ≡ w k) → Each (λ t. AreBelow n t.1) g → evaluate_poly prod v g ≡ evaluate_poly prod w g
+poly-below prod v w n [] h b = refl
+poly-below prod v w n (t ∷ g) h b = rw (evaluate-below prod v w n t.1 h b.0, poly-below prod v w n g h b.1) refl
+
+pub generator-unit : (n k : ℕ) → k < n → generator_vector n k ≡ unit k
+generator-unit n k h = grind (arith, nat_tests)
 
 terms_more : (ts : List Term) (i : ℕ) (d : Term) → i < length ts → terms (take (i + 1) ts) ≡ terms (take i ts) ++ term (get_or ts i d) ∷ []
 terms_more ts i d h = ap terms (take_more ts i d h) ∙ map-append term (take i ts) (get_or ts i d ∷ [])
