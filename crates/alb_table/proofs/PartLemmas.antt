@@ -6,7 +6,7 @@ use Rattle.std.specs.List.{flat_map}
 use Rattle.std.proofs.lemmas.List.Concat.{flat_map-append}
 use Rattle.std.proofs.Math.ListN.{length-replicate}
 use Rattle.std.proofs.lemmas.List.Sums.{sum_by-cons}
-use Rattle.std.proofs.lemmas.Bool.{cases_Bool}
+use Rattle.std.proofs.lemmas.Bool.{cases_Bool, cases_lt}
 use Rattle.std.proofs.lemmas.List.{get_or-replicate, get_or_append_left, get_or-append_right, map-append, append-nil, reverse-append, reverse-reverse}
 use Rattle.alb_table.specs.declared.grid.Grid.{Grid}
 use Rattle.alb_table.specs.Grid.{cells_of, OffsetsFrom, Rises, rectangle, find_entry}
@@ -90,7 +90,7 @@ number_at (q ∷ qs) b k d e f h =
     let n : length (replicate (length q.basis) k) ≡ length q.basis = length-replicate _ _ in
     let m : length (replicate (length q.basis) q.at) ≡ length q.basis = length-replicate _ _ in
     let l : length (elems (q ∷ qs)) ≡ length q.basis + length (elems qs) = length-append q.basis (elems qs) in
-    elim (side b (length q.basis)) [
+    elim (cases_lt b (length q.basis)) [
       | inl s ↦ (
         0,
         get_or_append_left (replicate (length q.basis) k) _ d b (omega arith) ∙ get_or-replicate (length q.basis) b k d s ∙ omega arith,
@@ -104,9 +104,6 @@ number_at (q ∷ qs) b k d e f h =
         r.3 ∙ sym (get_or-append_right (replicate (length q.basis) q.at) _ _ b f m s),
       )
     ]
-  where
-    side : (b n : ℕ) → (b < n) ⊎ (n ≤ b)
-    side b n = grind arith
 
 -- ---- over the stored parts
 

@@ -2,7 +2,7 @@
 use Rattle.std.proofs.Common.{◌≡◌, ℕ, zero, suc, ◌+◌, ◌<◌, ◌≤◌, true, List, [], ◌∷◌, ◌++◌, map, length, take, sym, refl, ap, ◌∙◌, arith, inl, inr, ◌⊎◌, subst, sum}
 use Rattle.std.specs.Prelude.{All, Option, Some, None, MatchOption, IfSome, IfNone}
 use Rattle.std.specs.List.{flat_map}
-use Rattle.std.proofs.lemmas.Bool.{cases_Bool}
+use Rattle.std.proofs.lemmas.Bool.{cases_Bool, cases_lt}
 use Rattle.std.proofs.lemmas.List.{map-append, append-nil, take-append-le, take_all}
 use Rattle.std.proofs.lemmas.List.Concat.{flat_map-append}
 use Rattle.alb_mono.specs.Listing.{Each, IsIn, Ascends}
@@ -134,7 +134,7 @@ entry_vector t b c e k h =
 
 -- ---- one degree more
 
-each-in : {X : Type 0} (P : X → Type 0) (xs : List X) → ((x : X) → IsIn x xs → P x) → Each P xs
+pub each-in : {X : Type 0} (P : X → Type 0) (xs : List X) → ((x : X) → IsIn x xs → P x) → Each P xs
 each-in P [] h = tt
 each-in P (x ∷ xs) h = (h x (inl refl), each-in P xs (λ y i. h y (inr i)))
 
@@ -193,13 +193,10 @@ length_gens k zero = refl
 length_gens k (suc n) = ap suc (length_gens (suc k) n)
 
 pub long_enough : (n : ℕ) (es : List Elem) → take n es ≡ map Gen (rising 0 n) → n ≤ length es
-long_enough n es h = elim (side (length es) n) [
+long_enough n es h = elim (cases_lt (length es) n) [
   | inr s ↦ s
   | inl s ↦ let a : take n es ≡ es = take_all n es (omega arith) in let l : length es ≡ n = ap length (sym a ∙ h) ∙ length_gens 0 n in omega arith
 ]
-  where
-    side : (a b : ℕ) → (a < b) ⊎ (b ≤ a)
-    side a b = grind arith
 
 pub extend_table : (t : Table) (new : List PartView) → IsTable t → t.degree < sum t.target → ats new ≡ types_of t.target (t.degree + 1) →
     Each (IsPartOf t.p t.parts (t.parts ++ new)) new → IsCountable (t.parts ++ new) → IsTable (extended t new)

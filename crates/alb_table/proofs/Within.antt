@@ -8,14 +8,11 @@ use Rattle.alb_mono.specs.Tree.{Tree, leaf, node, degree, count, listed, type_of
 use Rattle.alb_poly.specs.Instance.{run}
 use Rattle.alb_mono.proofs.Leaves.{below_from_test}
 use Rattle.alb_mono.proofs.Both.{and_left, and_right}
+pub use Rattle.alb_linear.proofs.LinearLemmas.{test_from_below}
 use Rattle.alb_table.specs.Leading.{SameType}
 use Rattle.alb_table.proofs.Types.{type-turned, type-listed}
 use Rattle.alb_table.proofs.Bases.{IsClosed, IsNext, IsBlock}
 use Rattle.alb_table.specs.Right.{IsOfType, IsWithin}
-
-pub test_from_below : (n : ℕ) (m : Tree) → AreBelow n m → are_below n m ≡ true
-test_from_below n (leaf k) h = grind (arith, nat_tests)
-test_from_below n (node l r) h = rw (test_from_below n l h.0, test_from_below n r h.1)
 
 -- no generator from `n` on occurs
 pub none-past : (n k : ℕ) (m : Tree) → AreBelow n m → n ≤ k → count k m ≡ 0
