@@ -18,6 +18,7 @@ mod tables;
 mod tests;
 mod value;
 
+pub use count::count_cells;
 pub use end::BuildEnd;
 pub use grid::Grid;
 pub use held::Held;
