@@ -6,6 +6,8 @@ pub mod Extra
 pub mod Types
 pub mod Kept
 pub mod Whole
+pub mod Evaluate
+pub mod Ideals
 pub mod NormalLemmas
 pub mod Products
 pub mod AtMost

@@ -1,11 +1,10 @@
 -- The homogeneous parts of a descending list are its runs of one type.
-use Rattle.std.proofs.Common.{◌≡◌, ◌≢◌, ℕ, zero, suc, ◌+◌, ◌-◌, ◌<◌, ◌≤◌, Bool, true, false, List, [], ◌∷◌, ◌++◌, take, drop, length, get_or, sum, sym, refl, ap, subst, ◌∙◌, arith, inl, inr, ◌⊎◌, All, ◌&&◌, append-nil}
-use Rattle.std.specs.Prelude.{◌==◌}
+use Rattle.std.proofs.Common.{◌≡◌, ◌≢◌, ℕ, zero, suc, ◌+◌, ◌-◌, ◌<◌, ◌≤◌, true, List, [], ◌∷◌, ◌++◌, take, drop, length, get_or, sum, sym, refl, ap, subst, ◌∙◌, arith, inl, inr, ◌⊎◌, All, append-nil}
 use Rattle.std.specs.Ordering.{nat_cmp, ordering_then}
 use Rattle.std.specs.Cmp.Lexicographic.{slice_cmp}
 use Rattle.std.specs.declared.cmp.Ordering.{Ordering}
 use Rattle.std.specs.declared.cmp.Ordering.TheVariants.{Less, Equal, Greater}
-use Rattle.std.proofs.lemmas.Bool.{cases_Bool, eqb-true, eq-eqb, false≢true}
+use Rattle.std.proofs.lemmas.Bool.{cases_Bool, false≢true}
 use Rattle.std.proofs.lemmas.Bool.Decides.{nat_tests}
 use Rattle.std.proofs.lemmas.Cmp.{tied_itself, nat_cmp_total, lists_total}
 use Rattle.std.proofs.Common.{drop_of_length-le}
@@ -16,7 +15,7 @@ use Rattle.std.proofs.lemmas.List.Sums.{sum_by-cons}
 use Rattle.gf_sums.specs.Sums.{AllBefore}
 use Rattle.alb_mono.specs.Listing.{Each, IsListing}
 use Rattle.alb_mono.specs.Mono.{tree}
-use Rattle.alb_mono.specs.Tree.{Tree, leaf, node, count, listed, type_of, cmp_types, cmp_trees, cmp_monos, are_below, AreBelow}
+use Rattle.alb_mono.specs.Tree.{Tree, count, listed, type_of, cmp_types, cmp_trees, cmp_monos, are_below, AreBelow}
 use Rattle.alb_mono.proofs.Leaves.{length-type_of, below_from_test}
 use Rattle.alb_mono.proofs.ListingLemmas.{each-weaker, each-append, in-left, in-right, ascends-append}
 use Rattle.alb_mono.proofs.Order.{cmp_types_total}

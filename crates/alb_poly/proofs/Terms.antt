@@ -48,6 +48,7 @@ canonical-nonzero p f h = each_nonzero p f f h (canonical-coefficients p f h)
   where
     differs : (p c n : ℕ) → n ≡ c → 0 < c → c < p → n % p ≢ 0
     differs p c n e pos small z = let q : c ≡ 0 = sym (mod-eq_of_lt small) ∙ ap (λ k. k % p) (sym e) ∙ z in absurd (omega arith)
+
     each_nonzero : (p : ℕ) (whole f : Poly) → IsCanonical cmp_monos p f → Each (λ t. coefficient same_tree whole t.1 ≡ t.0) f → Each (λ t. coefficient same_tree whole t.1 % p ≢ 0) f
     each_nonzero p whole [] h k = tt
     each_nonzero p whole (t ∷ f) h k = (differs p t.0 _ k.0 h.0 h.1, each_nonzero p whole f h.3 k.1)

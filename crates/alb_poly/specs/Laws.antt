@@ -1,5 +1,5 @@
 -- The laws of polynomials and consequences.
-use Rattle.std.specs.Prelude.{◌≡◌, ◌<◌, ◌↔◌, ℕ, ◌++◌, IsTrue, List, length}
+use Rattle.std.specs.Prelude.{◌≡◌, ◌<◌, ◌↔◌, ℕ, ◌++◌, IsTrue, Bool, List, length}
 use Rattle.gf_sums.specs.Sums.{scale, reindex, IsCanonical}
 use Rattle.alb_mono.specs.Tree.{Tree, cmp_monos}
 use Rattle.alb_mono.specs.declared.side.Side.{Side}
@@ -8,6 +8,8 @@ use Rattle.alb_poly.specs.Normal.{normal}
 use Rattle.alb_poly.specs.Context.{beside}
 use Rattle.alb_poly.specs.Instance.{Form, instance}
 use Rattle.alb_poly.specs.Identity.{HasType}
+use Rattle.alb_poly.specs.Textbook.{IsTextConsequence}
+use Rattle.alb_poly.specs.Ideal.{IsIdeal, IsTIdeal, HoldsValues, Passing}
 use Rattle.alb_poly.specs.Consequence.{IsConsequence, IsConsequenceOfType, AreMultilinear, form_at}
 
 -- sums, multiples and products with a monomial of consequences are consequences
@@ -36,3 +38,16 @@ TypesAreTested = (e : List ℕ) (m : Tree) → IsTrue (has_type e m) ↔ HasType
 abbrev pub PartsDecide : Type 0
 PartsDecide = (p : ℕ) (fs : List Form) (g : Poly) → AreMultilinear fs
     → IsConsequence p fs g ↔ ((e : List ℕ) → IsConsequenceOfType p fs e (part e g))
+
+-- The textbook's consequences of some identities are a T-ideal, which holds all values of the identities.
+pub record AreTIdealWithValues (p : ℕ) (fs : List Poly) : Type 0 where
+  pub t_ideal : IsTIdeal p (IsTextConsequence p fs)
+  pub values : HoldsValues fs (IsTextConsequence p fs)
+
+abbrev pub ConsequencesAreTIdeal : Type 0
+ConsequencesAreTIdeal = (p : ℕ) (fs : List Poly) → AreTIdealWithValues p fs
+
+-- They are the least such set: each ideal that holds all values of the identities holds them.
+abbrev pub ConsequencesAreLeast : Type 0
+ConsequencesAreLeast = (p : ℕ) (fs : List Poly) (test : Poly → Bool) → IsIdeal p (Passing test) → HoldsValues fs (Passing test)
+    → (g : Poly) → IsTextConsequence p fs g → Passing test g

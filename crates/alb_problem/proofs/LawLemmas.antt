@@ -8,7 +8,7 @@ use Rattle.alb_mono.specs.Listing.{Each}
 use Rattle.alb_poly.specs.Poly.{Poly}
 use Rattle.alb_poly.specs.Identity.{linearizations}
 use Rattle.alb_problem.proofs.Forms.{consequence-forms}
-use Rattle.alb_problem.proofs.FromText.{each-all}
+use Rattle.alb_mono.proofs.ListingLemmas.{each-always}
 use Rattle.alb_problem.proofs.ToText.{text-from_consequence}
 use Rattle.alb_problem.proofs.Satisfied as general
 use Rattle.alb_problem.proofs.Substitution.{Satisfies-text}
@@ -26,7 +26,7 @@ module _ (prod : ℕ → ℕ → Comb ℕ) (p : ℕ) where
   everywhere f h u over = alike-same (λ i j. nat_eq i j) numbers-tell (h u)
 
   here : (f : Poly) → general.Satisfies prod (λ i. Unit {0}) p f → Satisfies prod p f
-  here f h u = same-alike (λ i j. nat_eq i j) numbers-tell (h u (λ v. each-all (λ t. Unit {0}) (u v) (λ t. tt)))
+  here f h u = same-alike (λ i j. nat_eq i j) numbers-tell (h u (λ v. each-always (λ t. Unit {0}) (u v) (λ t. tt)))
 
   all-everywhere : (fs : List Poly) → Each (Satisfies prod p) fs → Each (general.Satisfies prod (λ i. Unit {0}) p) fs
   all-everywhere [] h = tt
@@ -34,4 +34,4 @@ module _ (prod : ℕ → ℕ → Comb ℕ) (p : ℕ) where
 
 pub consequences-hold : ConsequencesHold
 consequences-hold prod p fs g h c =
-    here prod p g (Satisfies-text prod (λ i. Unit {0}) (λ i j a b. each-all (λ t. Unit {0}) (prod i j) (λ t. tt)) p fs g (all-everywhere prod p fs h) c)
+    here prod p g (Satisfies-text prod (λ i. Unit {0}) (λ i j a b. each-always (λ t. Unit {0}) (prod i j) (λ t. tt)) p fs g (all-everywhere prod p fs h) c)

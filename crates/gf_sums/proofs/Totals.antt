@@ -3,7 +3,7 @@ use Rattle.std.proofs.Common.{◌≡◌, ℕ, zero, suc, ◌+◌, ◌*◌, ◌�
 use Rattle.std.specs.Bool.{if◌then◌else◌}
 use Rattle.std.specs.List.{flat_map}
 use Rattle.std.proofs.lemmas.Bool.{cases_Bool}
-use Rattle.std.proofs.Math.Nat.{mul_assoc, add-mul}
+use Rattle.std.proofs.Math.Nat.{mul_assoc, mul_left_comm, add-mul}
 use Rattle.gf_field.specs.Modular.{IsSameMod}
 use Rattle.gf_field.proofs.Mod.{same as alike, next, plus, times}
 use Rattle.gf_sums.specs.Sums.{total, Comb, weigh, coefficient, AreSame, scale, multiply, Tells}
@@ -57,6 +57,13 @@ module _ {I : Type 0} where
 
 pub weigh-equal : {I : Type 0} (v w : I → ℕ) (f : Comb I) → ((i : I) → v i ≡ w i) → weigh v f ≡ weigh w f
 weigh-equal v w f h = total-equal _ _ f (λ t. ap (λ n. t.0 * n) (h t.1))
+
+-- a weight of two indices, summed in either order
+pub weigh-swap : {I J : Type 0} (w : I → J → ℕ) (f : Comb I) (g : Comb J) → weigh (λ i. weigh (w i) g) f ≡ weigh (λ j. weigh (λ i. w i j) f) g
+weigh-swap w f g =
+    total-equal _ _ f (λ s. sym (total-times s.0 _ g))
+    ∙ total-swap (λ s t. s.0 * (t.0 * w s.1 t.1)) f g
+    ∙ total-equal _ _ g (λ t. total-equal _ _ f (λ s. mul_left_comm s.0 t.0 (w s.1 t.1)) ∙ total-times t.0 _ f)
 
 pub weigh-multiply : {I J K : Type 0} (prod : I → J → Comb K) (w : K → ℕ) (f : Comb I) (g : Comb J) →
     weigh w (multiply prod f g) ≡ weigh (λ i. weigh (λ j. weigh w (prod i j)) g) f
