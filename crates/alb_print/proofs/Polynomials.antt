@@ -9,6 +9,7 @@ use Rattle.std.proofs.lemmas.List.{append-nil}
 use Rattle.std.proofs.lemmas.List.Concat.{flat_map-cons}
 use Rattle.gf_sums.specs.Sums.{AllBefore, IsCanonical}
 use Rattle.alb_mono.specs.Tree.{Tree, leaf, node, degree, are_below, cmp_monos}
+use Rattle.alb_mono.proofs.Both.{both_tests}
 use Rattle.alb_lex.specs.declared.token.Token.{Token}
 use Rattle.alb_lex.specs.declared.token.TokenKind.TheVariants as kinds
 use Rattle.alb_lex.specs.Lexing.{tokens_from, run, value_after}
@@ -19,7 +20,7 @@ use Rattle.alb_print.specs.Text.{mono_text, is_negative, absolute, term_text, la
 use Rattle.alb_mono.specs.Letters.{AreLetters}
 use Rattle.alb_print.specs.Laws.{TextDenotes, AreFit, PolynomialsDenoteThemselves}
 use Rattle.alb_print.proofs.Spelled.{Spelled, spelled-one, spelled-map, spelled-none, spelled-then, spelled-sign, spelled-all, letter_is}
-use Rattle.alb_print.proofs.Numbers.{spelled-number, both_true}
+use Rattle.alb_print.proofs.Numbers.{spelled-number}
 use Rattle.alb_print.proofs.Monomials.{whole}
 use Rattle.alb_print.proofs.Values.{multiple-one, minus-one, sum-last, difference-last}
 
@@ -60,7 +61,7 @@ module _ (p : ℕ) (ls : List ℕ) (are : AreLetters ls) (one : 1 < p) (small : 
       let lt = ltb-true k (length ls) h in (slice_index ls k, [], refl, (letter_is (slice_index ls k) (are.low k lt) (are.high k lt)).1)
   mono-first true (node l r) h = (40, _, refl, refl)
   mono-first false (node l r) h =
-      let bs = both_true (are_below (length ls) l) (are_below (length ls) r) h in
+      let bs = both_tests (are_below (length ls) l) (are_below (length ls) r) h in
       let u = mono-first true l bs.0 in (u.0, u.1 ++ mono_text ls true r, ap (λ x. x ++ mono_text ls true r) u.2, u.3)
 
   jordan_of : (m : Tree) → are_below (length ls) m ≡ true → degree m ≤ 64 → Spelled (mono_text ls false m) (λ ts. Denotes p ls Jordan 64 ts ((1, m) ∷ []))

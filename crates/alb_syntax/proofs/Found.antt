@@ -18,7 +18,9 @@ use Rattle.alb_syntax.specs.Operations.{within, sum, difference, times, multiple
 use Rattle.alb_syntax.specs.Reading.{Setting, Reader, ReaderOf, next, after, place, must, must_or, unexpected, is_plus, is_sign, is_star, is_comma, is_close, is_square_close, begins_atom, turns, each, letter, atom_at, atom, exponent_at, exponent, is_caret, power, factor, juxt, star, jprod, numbered, term_at, term, first_at, first, signed, poly, two_more, round, square, bracketed, ended, denoted}
 use Rattle.alb_syntax.specs.Grammar.{Class, Denotes, Makes, Atom, Power, Juxt, Jordan, Term, Sum}
 use Rattle.alb_syntax.specs.Grammar as grammar
+use Rattle.alb_mono.proofs.Both.{both_tests}
 use Rattle.alb_syntax.proofs.Binds.{bind_ok, guard_ok, ok_is}
+use Rattle.alb_syntax.proofs.Regroups.{regroup_one, regroup_two, regroup_three}
 
 -- ---- an operation has one result, wherever a limit would be answered
 
@@ -165,14 +167,10 @@ module _ (s : Setting) (n : ℕ) (bracket : Reader) (opens : FindsOpen s n brack
       → t.kind ≡ k → exponent_at s at f (Some k) (t ∷ us) ≡ Ok x → Found s Power n (front ++ h ∷ t ∷ us) x
   exponent_at-found front h f at (kinds.Number m) t us x d eh et e =
       let g = guard_ok (nat_le 1 m && nat_le m 64) (raised s.field at f (m - 1) f >>= λ g. Ok (g, us)) (errors.Expected t.from) x e in
-      let b = both_true (nat_le 1 m) (nat_le m 64) g.0 in
+      let b = both_tests (nat_le 1 m) (nat_le m 64) g.0 in
       let w = bind_ok (raised s.field at f (m - 1) f) (λ g. Ok (g, us)) x g.1 in
       found_at s Power n (front ++ h ∷ t ∷ us) us w.0 (front ++ h ∷ t ∷ []) (sym (append_assoc front (h ∷ t ∷ []) us))
       (grammar.a_power n m h t front f w.0 d eh et (leb-true 1 m b.0) (leb-true m 64 b.1) (λ c. raised-any s.field at c f (m - 1) f w.0 w.1)) x (ok_is (w.0, us) x w.2)
-    where
-      both_true : (a b : Bool) → (a && b) ≡ true → (a ≡ true) × (b ≡ true)
-      both_true true b e = (refl, e)
-      both_true false b e = absurd cc
   exponent_at-found front h f at _ t us x d eh et e = absurd cc
 
 either_way : {A : Type 0} (b : Bool) (r q : Result A SyntaxError) (P : A → Type 0) → (b ≡ true → (x : A) → r ≡ Ok x → P x) → (b ≡ false → (x : A) → q ≡ Ok x → P x) → (x : A) → cond b r q ≡ Ok x → P x
@@ -302,16 +300,6 @@ module _ (s : Setting) (n : ℕ) (bracket : Reader) (opens : FindsOpen s n brack
       (length w.0.1) a.front w.0.0 w.0.1 x a.denotes w.2 in
       record { front = a.front ++ r.0; whole = a.whole ∙ ap (λ z. a.front ++ z) r.1 ∙ sym (append_assoc a.front r.0 x.1); denotes = r.2 }
 
-pub regroup_one : (us rest : List Token) (c : Token) → (us ++ c ∷ []) ++ rest ≡ us ++ (c ∷ rest)
-regroup_one us rest c = append_assoc us (c ∷ []) rest
-
-regroup_two : (us vs rest : List Token) (a c : Token) → (us ++ a ∷ vs ++ c ∷ []) ++ rest ≡ us ++ (a ∷ (vs ++ (c ∷ rest)))
-regroup_two us vs rest a c = append_assoc (us ++ a ∷ vs) (c ∷ []) rest ∙ append_assoc us (a ∷ vs) (c ∷ rest)
-
-regroup_three : (us vs ws rest : List Token) (a b c : Token) → (us ++ a ∷ vs ++ b ∷ ws ++ c ∷ []) ++ rest ≡ us ++ (a ∷ (vs ++ (b ∷ (ws ++ (c ∷ rest)))))
-regroup_three us vs ws rest a b c =
-    append_assoc (us ++ a ∷ vs ++ b ∷ ws) (c ∷ []) rest ∙ append_assoc (us ++ a ∷ vs) (b ∷ ws) (c ∷ rest) ∙ append_assoc us (a ∷ vs) (b ∷ (ws ++ (c ∷ rest)))
-
 module _ (s : Setting) (n : ℕ) (inside : Reader) (finds : Finds s Sum n inside) (o : Token) where
   round-found : (ts : List Token) (x : Poly × List Token) → o.kind ≡ kinds.Open → round s inside o.from ts ≡ Ok x → Found s Atom (suc n) (o ∷ ts) x
   unfolding round two_more
@@ -369,7 +357,8 @@ bracketed-found s zero t ts x k e = absurd cc
 bracketed-found s (suc n) t ts x (inl k) e = round-found s n (poly s (bracketed s n)) (poly-found s n (bracketed s n) (bracketed-found s n)) t ts x k (rw k at e)
 bracketed-found s (suc n) t ts x (inr k) e = square-found s n (poly s (bracketed s n)) (poly-found s n (bracketed s n) (bracketed-found s n)) t ts x k (rw k at e)
 
-ended_nil : (g f : Poly) (ts : List Token) → ended g ts ≡ Ok f → (ts ≡ []) × (g ≡ f)
+-- no token is left behind the value
+pub ended_nil : {V : Type 0} (g f : V) (ts : List Token) → ended g ts ≡ Ok f → (ts ≡ []) × (g ≡ f)
 ended_nil g f [] e = (refl, ok_is g f e)
 ended_nil g f (t ∷ ts) e = absurd cc
 

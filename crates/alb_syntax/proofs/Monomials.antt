@@ -18,7 +18,8 @@ use Rattle.alb_syntax.specs.Monomials as grammar
 use Rattle.alb_syntax.proofs.Binds.{bind_ok, ok_is}
 use Rattle.alb_syntax.proofs.Turns.{Shrinks, IsPart, each-less, each-step, each-stops}
 use Rattle.alb_syntax.proofs.Shrinks.{after-less, after-shorter, ok_rest, must-less}
-use Rattle.alb_syntax.proofs.Found.{turns-found, must-found, close_is, regroup_one}
+use Rattle.alb_syntax.proofs.Found.{turns-found, must-found, close_is, ended_nil}
+use Rattle.alb_syntax.proofs.Regroups.{regroup_one}
 
 -- ---- what is read takes a token
 
@@ -191,16 +192,12 @@ nested-spelled s (suc n) t ts x k e =
     (ap (λ y. t ∷ y) (fa.whole ∙ ap (λ y. fa.front ++ y) cd.1 ∙ sym (regroup_one fa.front v.0 cd.0)))
     (grammar.in_brackets n t cd.0 fa.front a.0.0 k fa.spells (close_is cd.0.kind cd.2)) x (ok_is (a.0.0, v.0) x v.2)
 
-ended-nil : (l m : Tree) (ts : List Token) → ended l ts ≡ Ok m → (ts ≡ []) × (l ≡ m)
-ended-nil l m [] e = (refl, ok_is l m e)
-ended-nil l m (t ∷ ts) e = absurd cc
-
 pub mono_denoted-spelled : (s : Lettering) (ts : List Token) (m : Tree) → mono_denoted s ts ≡ Ok m → Spells s.letters Product 64 ts m
 unfolding mono_denoted
 mono_denoted-spelled s ts m e =
     let w = bind_ok (mono s (nested s 64) ts) (λ x. ended x.0 x.1) m e in
     let a = mono-spelled s 64 (nested s 64) (nested-spelled s 64) ts w.0 w.1 in
-    let n = ended-nil w.0.0 m w.0.1 w.2 in
+    let n = ended_nil w.0.0 m w.0.1 w.2 in
     let q : ts ≡ a.front = a.whole ∙ ap (λ y. a.front ++ y) n.0 ∙ append-nil a.front in
     subst (λ g. Spells s.letters Product 64 ts g) n.1 (subst (λ y. Spells s.letters Product 64 y w.0.0) (sym q) a.spells)
 
