@@ -11,11 +11,12 @@ use Rattle.alb_mono.specs.Mono.{tree}
 use Rattle.alb_mono.specs.Tree.{Tree, leaf, node, degree, are_below}
 use Rattle.alb_mono.specs.declared.mono.Mono.{Mono}
 use Rattle.alb_syntax.specs.declared.error.SyntaxError.{SyntaxError}
-use Rattle.alb_syntax.specs.Gives.{◌>>=◌, Gives}
+use Rattle.alb_lex.specs.Results.{◌>>=◌}
+use Rattle.alb_syntax.specs.Gives.{Gives}
 use Rattle.alb_syntax.specs.Reading.{ReadingOf, ReaderOf, next, after, place_or, must_or, is_close, each, ended}
 use Rattle.alb_syntax.specs.Monomials.{Lettering, begins_part, named, part_at, part, joined, next_part, mono, enclosed, nested, mono_denoted, Shape, Part, Product, Spells}
 use Rattle.alb_syntax.specs.Monomials as grammar
-use Rattle.alb_syntax.proofs.Binds.{bind_ok, ok_is}
+use Rattle.alb_lex.proofs.Binds.{bind_ok, ok_is}
 use Rattle.alb_syntax.proofs.Turns.{Shrinks, IsPart, each-less, each-step, each-stops}
 use Rattle.alb_syntax.proofs.Shrinks.{after-less, after-shorter, ok_rest, must-less}
 use Rattle.alb_syntax.proofs.Found.{turns-found, must-found, close_is, ended_nil}
@@ -137,6 +138,9 @@ SpellingOpen s n bracket = (t : Token) (ts : List Token) (x : Tree × List Token
 spelled_at : (s : Lettering) (c : Shape) (n : ℕ) (ts us : List Token) (m : Tree) (front : List Token) → ts ≡ front ++ us → Spells s.letters c n front m → (x : Tree × List Token) → (m, us) ≡ x → Spelled s c n ts x
 spelled_at s c n ts us m front w d x e = subst (λ (y : Tree × List Token). Spelled s c n ts y) e (record { front = front; whole = w; spells = d })
 
+spelled_then : (s : Lettering) (c : Shape) (n : ℕ) (ts mid us vs : List Token) (x : Tree × List Token) → ts ≡ us ++ mid → mid ≡ vs ++ x.1 → Spells s.letters c n (us ++ vs) x.0 → Spelled s c n ts x
+spelled_then s c n ts mid us vs x p q d = record { front = us ++ vs; whole = p ∙ ap (λ z. us ++ z) q ∙ sym (append_assoc us vs x.1); spells = d }
+
 joined-is : (at : ℕ) (l r m : Tree) → joined at l r ≡ Ok m → (degree l + degree r ≤ 64) × (node l r ≡ m)
 unfolding joined
 joined-is at l r m e = elim (cases_Bool (nat_lt 64 (degree l + degree r))) [
@@ -178,7 +182,7 @@ module _ (s : Lettering) (n : ℕ) (bracket : ReaderOf Tree) (opens : SpellingOp
       let a = part-spelled ts w.0 w.1 in
       let r = turns-found (λ us m. Spells s.letters Product n us m) begins_part (next_part s bracket) next_part-spelled
       (length w.0.1) a.front w.0.0 w.0.1 x (grammar.one_part n a.front w.0.0 a.spells) w.2 in
-      record { front = a.front ++ r.0; whole = a.whole ∙ ap (λ z. a.front ++ z) r.1 ∙ sym (append_assoc a.front r.0 x.1); spells = r.2 }
+      spelled_then s Product n ts w.0.1 a.front r.0 x a.whole r.1 r.2
 
 nested-spelled : (s : Lettering) (n : ℕ) → SpellingOpen s n (nested s n)
 unfolding nested enclosed
