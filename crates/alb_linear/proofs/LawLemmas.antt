@@ -1,18 +1,17 @@
 -- What breaks no rule is a homogeneous identity, and the other way round.
-use Rattle.std.proofs.Common.{◌≡◌, ◌≢◌, ℕ, ◌%◌, ◌<◌, ◌≤◌, ◌==◌, true, false, List, [], ◌∷◌, length, sum, Option, Some, None, sym, refl, ap, ◌∙◌, subst, arith, ltb}
-use Rattle.std.proofs.lemmas.Grind.{same_number_lists}
+use Rattle.std.proofs.Common.{◌≡◌, ◌≢◌, ℕ, ◌%◌, ◌≤◌, ◌==◌, true, false, List, [], ◌∷◌, length, sum, Option, Some, None, refl, ap, ◌∙◌, subst, arith, ltb}
 use Rattle.std.proofs.lemmas.Bool.Decides.{nat_tests}
 use Rattle.gf_sums.specs.Sums.{coefficient, IsCanonical}
 use Rattle.alb_mono.specs.Listing.{Each}
 use Rattle.alb_mono.proofs.ListingLemmas.{each-weaker}
 use Rattle.alb_mono.specs.Tree.{Tree, degree, type_of, AreBelow, cmp_monos, same_tree}
-use Rattle.alb_mono.proofs.Leaves.{sum-type_of, length-type_of, get-type}
+use Rattle.alb_mono.proofs.Leaves.{sum-type_of}
 use Rattle.alb_poly.specs.Poly.{Poly, list_eq}
 use Rattle.alb_poly.specs.Identity.{HasType, IsHomogeneous}
+use Rattle.alb_poly.proofs.Types.{list_eq-itself, has_type-is, has_type-whole}
 use Rattle.alb_poly.proofs.Terms.{canonical-nonzero, of_terms}
 use Rattle.alb_linear.specs.Identity.{leading_type, other_term, type_fault, degree_fault, identity_fault, DegreeOne}
 use Rattle.alb_linear.specs.Laws.{IsHomogeneousIdentity}
-use Rattle.alb_linear.proofs.IdentityLemmas.{list_eq-itself}
 use Rattle.alb_linear.proofs.LinearLemmas.{IsFit, identity-fits, homogeneous, same_type, length-leading, degree-pos, test_from_below}
 
 not-one : (n : ℕ) → degree_fault n ≡ None → n ≢ 1
@@ -46,9 +45,7 @@ accepted p (t ∷ f) c b h =
     )
 
 type-is : (e : List ℕ) (m : Tree) → length e ≡ 26 → HasType e m → type_of 26 m ≡ e
-type-is e m n h =
-    same_number_lists (type_of 26 m) e (length-type_of 26 m ∙ sym n)
-    (λ k l. let u : k < 26 = omega (arith, length-type_of 26 m, l) in get-type 26 m k u ∙ h.counts k (omega (arith, n, u)))
+type-is e m n h = has_type-is 26 e m n (has_type-whole e m h)
 
 none-other : (e : List ℕ) (f : Poly) → length e ≡ 26 → IsHomogeneous e f → other_term e f ≡ None
 none-other e [] n h = refl

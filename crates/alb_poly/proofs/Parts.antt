@@ -5,6 +5,7 @@ use Rattle.std.specs.List.{filter}
 use Rattle.std.proofs.lemmas.Bool.{cases_Bool}
 use Rattle.alb_mono.specs.Tree.{Tree, leaf, node, count, listed}
 use Rattle.gf_sums.specs.Sums.{total, Comb, weigh}
+pub use Rattle.gf_sums.proofs.Totals.{weigh-zero}
 use Rattle.alb_mono.specs.declared.side.Side.{Side}
 use Rattle.alb_mono.specs.declared.side.Side.TheVariants.{Left, Right}
 use Rattle.alb_poly.specs.Context.{within}
@@ -31,10 +32,6 @@ count-within g ((Right, m) ∷ c) x = omega (arith, count-within g c (node x m))
 pub listed-equal : (f g : ℕ → ℕ) (k n : ℕ) → ((i : ℕ) → f i ≡ g i) → listed f k n ≡ listed g k n
 listed-equal f g k zero h = refl
 listed-equal f g k (suc n) h = rw (h k, listed-equal f g (suc k) n h)
-
-pub weigh-zero : {I : Type 0} (f : Comb I) → weigh (λ i. 0) f ≡ 0
-weigh-zero [] = refl
-weigh-zero (t ∷ f) = omega (arith, weigh-zero f)
 
 pub weigh-each : {I : Type 0} (P : I → Type 0) (v w : I → ℕ) (f : Comb I) → ((i : I) → P i → v i ≡ w i) → Each (λ t. P t.1) f → weigh v f ≡ weigh w f
 weigh-each P v w [] k a = refl

@@ -1,6 +1,5 @@
 -- Values in an algebra with a basis: `prod` is the product of two basis elements.
-use Rattle.std.proofs.Common.{◌≡◌, ℕ, ◌*◌, true, false, sym, ◌∙◌, arith, inl, inr, eqb}
-use Rattle.std.proofs.Math.Nat.{mul_left_comm}
+use Rattle.std.proofs.Common.{◌≡◌, ℕ, true, false, sym, ◌∙◌, arith, inl, inr, eqb}
 use Rattle.std.proofs.lemmas.Bool.{cases_eq}
 use Rattle.std.proofs.lemmas.Bool.Decides.{nat_tests}
 use Rattle.alb_mono.specs.Tree.{Tree, leaf, node, count}

@@ -7,10 +7,10 @@ use Rattle.std.proofs.Common.{inl, inr}
 use Rattle.std.proofs.Common.{eqb}
 use Rattle.alb_mono.specs.Tree.{Tree, leaf, node, count}
 use Rattle.gf_sums.specs.Sums.{Comb, weigh}
-use Rattle.gf_sums.proofs.Totals.{total-equal, weigh-scale, weigh-equal}
+use Rattle.gf_sums.proofs.Totals.{weigh-equal}
 use Rattle.gf_field.specs.Modular.{IsSameMod}
 use Rattle.gf_field.proofs.Mod.{same, ◌⊙◌, plus, times}
-use Rattle.gf_sums.proofs.Alike.{Alike, weigh-flat}
+use Rattle.gf_sums.proofs.Alike.{Alike}
 use Rattle.alb_poly.specs.Instance.{Form}
 use Rattle.alb_poly.specs.Instance.{run}
 use Rattle.alb_poly.specs.Instance.{IsMultilinear, IsMultilinearForm}

@@ -11,14 +11,15 @@ use Rattle.std.proofs.lemmas.Bool.{cases_lt}
 use Rattle.std.proofs.lemmas.Bool.Decides.{nat_tests}
 use Rattle.gf_field.specs.Primes.{IsPrime}
 use Rattle.alb_mono.specs.Tree.{Tree, leaf, node, degree, AreBelow}
-use Rattle.gf_sums.specs.Sums.{weigh, scale, reindex}
-use Rattle.gf_sums.proofs.Totals.{weigh-equal, weigh-scale, weigh-multiply}
+use Rattle.gf_sums.specs.Sums.{weigh, scale}
+use Rattle.gf_sums.proofs.Totals.{weigh-equal, weigh-multiply}
 use Rattle.gf_sums.proofs.Alike.{Alike, equal, turned, joined, weigh-reindex}
 use Rattle.alb_poly.specs.Poly.{Poly}
 use Rattle.alb_poly.specs.Context.{within}
 use Rattle.alb_poly.specs.Instance.{fill, Form, instance, linearization}
 use Rattle.alb_poly.specs.Consequence.{form_at, IsConsequence}
 use Rattle.alb_mono.specs.Listing.{Each}
+use Rattle.alb_linear.proofs.LinearLemmas.{degree-pos}
 use Rattle.alb_mono.proofs.ListingLemmas.{each-always}
 use Rattle.alb_poly.proofs.Multilinear.{each-flat, each-map, multilinear-below, linearization-multilinear}
 use Rattle.alb_poly.specs.Identity.{HasType, IsHomogeneous}
@@ -87,12 +88,8 @@ AreMultilinear-linearizations fs h = each-map (λ f. IsHomogeneous f.degrees f.t
 
 -- ---- values have at least the degree of their monomials
 
-degree-positive : (m : Tree) → 1 ≤ degree m
-degree-positive (leaf k) = omega arith
-degree-positive (node l r) = omega (arith, degree-positive l)
-
 degree-value : (u : ℕ → Poly) (m : Tree) → Each (λ t. degree m ≤ degree t.1) (evaluate free_product u m)
-degree-value u (leaf k) = each-always _ (u k) (λ t. degree-positive t.1)
+degree-value u (leaf k) = each-always _ (u k) (λ t. degree-pos t.1)
 degree-value u (node l r) =
     let R = evaluate free_product u r in
     each-flat (λ s. degree l ≤ degree s.1) (λ t. degree (node l r) ≤ degree t.1)

@@ -1,8 +1,8 @@
 -- The laws over numbered bases.
-use Rattle.std.proofs.Common.{ℕ, List, [], ◌∷◌, refl}
+use Rattle.std.proofs.Common.{ℕ, List, [], ◌∷◌}
 use Rattle.std.specs.Prelude.{nat_eq}
-use Rattle.std.proofs.lemmas.Bool.{eqb-true, eq-eqb}
-use Rattle.gf_sums.specs.Sums.{Comb, Tells}
+use Rattle.gf_sums.specs.Sums.{Comb}
+use Rattle.gf_sums.proofs.Totals.{numbers-tell}
 use Rattle.gf_sums.proofs.Alike.{alike-same, same-alike}
 use Rattle.alb_mono.specs.Listing.{Each}
 use Rattle.alb_poly.specs.Poly.{Poly}
@@ -17,9 +17,6 @@ use Rattle.alb_problem.specs.Laws.{ConsequencesAreTextbookConsequences, Conseque
 
 pub consequences-text : ConsequencesAreTextbookConsequences
 consequences-text p ls fs g pos hom same c = text-from_consequence p pos fs hom g (consequence-forms p ls (linearizations fs) same g c)
-
-numbers-tell : Tells (λ i j. nat_eq i j)
-numbers-tell = record { sound = eqb-true; whole = λ i. eq-eqb i i refl }
 
 module _ (prod : ℕ → ℕ → Comb ℕ) (p : ℕ) where
   everywhere : (f : Poly) → Satisfies prod p f → general.Satisfies prod (λ i. Unit {0}) p f

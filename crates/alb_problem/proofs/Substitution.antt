@@ -4,7 +4,7 @@ use Rattle.std.specs.List.{flat_map}
 use Rattle.alb_mono.specs.Listing.{Each}
 use Rattle.alb_mono.proofs.ListingLemmas.{each-weaker}
 use Rattle.alb_mono.specs.Tree.{Tree, leaf, node}
-use Rattle.gf_sums.specs.Sums.{Comb, scale, multiply}
+use Rattle.gf_sums.specs.Sums.{Comb, scale}
 use Rattle.gf_sums.proofs.Totals.{weigh-multiply}
 use Rattle.gf_sums.proofs.Alike.{Alike, equal, itself, turned, joined, append-alike, scale-alike, multiply-alike}
 use Rattle.alb_poly.specs.Poly.{Poly}

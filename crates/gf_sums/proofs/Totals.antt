@@ -1,8 +1,8 @@
 -- The laws of sums over lists and of combinations.
-use Rattle.std.proofs.Common.{◌≡◌, ℕ, zero, suc, ◌+◌, ◌*◌, ◌≤◌, Bool, true, false, List, [], ◌∷◌, ◌++◌, map, length, sym, refl, ap, ◌∙◌, arith, inl, inr}
+use Rattle.std.proofs.Common.{◌≡◌, ℕ, zero, suc, ◌+◌, ◌*◌, ◌≤◌, Bool, true, false, List, [], ◌∷◌, ◌++◌, map, length, nat_eq, sym, refl, ap, ◌∙◌, arith, inl, inr}
 use Rattle.std.specs.Bool.{if◌then◌else◌}
 use Rattle.std.specs.List.{flat_map}
-use Rattle.std.proofs.lemmas.Bool.{cases_Bool}
+use Rattle.std.proofs.lemmas.Bool.{cases_Bool, eqb-true, eq-eqb}
 use Rattle.std.proofs.Math.Nat.{mul_assoc, mul_left_comm, add-mul}
 use Rattle.gf_field.specs.Modular.{IsSameMod}
 use Rattle.gf_field.proofs.Mod.{same as alike, next, plus, times}
@@ -55,6 +55,10 @@ module _ {I : Type 0} where
   weigh-scale w c [] = omega arith
   weigh-scale w c (t ∷ f) = omega (arith, weigh-scale w c f, mul_assoc c t.0 (w t.1))
 
+pub weigh-zero : {I : Type 0} (f : Comb I) → weigh (λ i. 0) f ≡ 0
+weigh-zero [] = refl
+weigh-zero (t ∷ f) = omega (arith, weigh-zero f)
+
 pub weigh-equal : {I : Type 0} (v w : I → ℕ) (f : Comb I) → ((i : I) → v i ≡ w i) → weigh v f ≡ weigh w f
 weigh-equal v w f h = total-equal _ _ f (λ t. ap (λ n. t.0 * n) (h t.1))
 
@@ -71,6 +75,10 @@ weigh-multiply prod w f g =
     total-flat _ _ f ∙ total-equal _ _ f (λ s.
     total-flat _ _ g ∙ total-equal _ _ g (λ t. weigh-scale w (s.0 * t.0) (prod s.1 t.1) ∙ mul_assoc s.0 t.0 _)
     ∙ total-times s.0 _ g)
+
+-- numbers are told apart by `nat_eq`
+pub numbers-tell : Tells nat_eq
+numbers-tell = record { sound = eqb-true; whole = λ i. eq-eqb i i refl }
 
 -- ---- equal combinations have equal values at every weight
 
