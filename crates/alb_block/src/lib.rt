@@ -5,6 +5,7 @@
 
 mod block;
 mod error;
+pub mod laws;
 mod offers;
 #[cfg(test)]
 mod tests;
