@@ -14,8 +14,6 @@ mod part;
 mod store;
 mod stored;
 mod tables;
-#[cfg(test)]
-mod tests;
 mod value;
 
 pub use count::count_cells;
