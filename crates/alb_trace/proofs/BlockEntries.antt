@@ -50,7 +50,7 @@ use Rattle.alb_query.proofs.ValueLemmas.{columns-below}
 use Rattle.alb_poly.proofs.Consequence.{itself'}
 use Rattle.alb_block.proofs.ColumnLemmas.{columns-are, columns-in}
 use Rattle.alb_block.proofs.InstanceLemmas.{row-monos, row-in, vector-pairs}
-use Rattle.alb_trace.specs.Given.{IsRightFor}
+use Rattle.alb_trace.specs.Given.{IsRightOver}
 use Rattle.alb_trace.specs.Origins.{origin_at, origin_row, IsOriginBlock}
 use Rattle.alb_trace.specs.Trace.{product_less}
 use Rattle.alb_trace.proofs.OfferedLemmas.{with_past, number_below, reduced_through}
@@ -116,7 +116,7 @@ origins-known P (q ∷ qs) w a = elim (cases_Bool (list_eq q.at w)) [
   | inr e ↦ rw e (origins-known P qs w a.1)
 ]
 
-module _ (fs : List Form) (t : Table) (g : IsRightFor fs t) (w : List ℕ) (cov : CoversType t w) (long : length w ≡ length t.target) (big : 2 ≤ sum w) where
+module _ (fs : List Form) (t : Table) (g : IsRightOver fs t) (w : List ℕ) (cov : CoversType t w) (long : length w ≡ length t.target) (big : 2 ≤ sum w) where
   -- the degree below
   abbrev pub low : ℕ
   low = sum w - 1

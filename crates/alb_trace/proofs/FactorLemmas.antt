@@ -26,7 +26,7 @@ use Rattle.alb_table.proofs.Spans.{spread-alike}
 use Rattle.alb_query.proofs.ValueLemmas.{mono-known, mono-degree}
 use Rattle.alb_trace.specs.Adds.{item_times}
 use Rattle.alb_trace.specs.declared.trace.Trace.{Trace}
-use Rattle.alb_trace.specs.Given.{IsRightFor, FitsTarget, IsPartOf, IsValueRow}
+use Rattle.alb_trace.specs.Given.{IsRightOver, FitsTarget, IsPartOf, IsValueRow}
 use Rattle.alb_trace.specs.Trace.{most_items, mono_less, Derives, Pushes}
 use Rattle.alb_trace.proofs.PushLemmas.{spread-reindex, pushes-next, pushes-item}
 use Rattle.alb_trace.proofs.Splits.{image-split}
@@ -36,7 +36,7 @@ use Rattle.alb_trace.proofs.ValueRows.{pos, over, value-parts}
 pub scale-joined : {p : ℕ} (c : ℕ) (x y : Poly) → Alike p (scale c x ++ scale c y) (scale c (x ++ y))
 scale-joined c x y = itself' _ _ (sym (map-append (λ (s : ℕ × Tree). (c * s.0, s.1)) x y))
 
-module _ (fs : List Form) (t : Table) (g : IsRightFor fs t) where
+module _ (fs : List Form) (t : Table) (g : IsRightOver fs t) where
   -- both factors of a product within are within
   pub within-left : (l r : Tree) → IsWithin t.target t.degree (node l r) → IsWithin t.target t.degree l
   within-left l r w = (over fs t g).closed.left l r w

@@ -34,7 +34,7 @@ use Rattle.alb_block.specs.Instances.{columns_of}
 use Rattle.alb_block.specs.Offers.{IsRowOf}
 use Rattle.alb_block.proofs.ListLemmas.{all-each}
 use Rattle.alb_block.proofs.OfferLemmas.{form_item, item-form, row-of}
-use Rattle.alb_trace.specs.Given.{IsRightFor, IsProductType}
+use Rattle.alb_trace.specs.Given.{IsRightOver, IsProductType}
 use Rattle.alb_trace.specs.Origins.{origin_at, origin_instance}
 use Rattle.alb_trace.specs.Trace.{most_items, lines_of, IsTrace}
 use Rattle.alb_trace.specs.declared.trace.Trace.{Trace}
@@ -43,7 +43,7 @@ use Rattle.alb_trace.proofs.ValueRows.{pos}
 use Rattle.alb_trace.proofs.BlockEntries.{origin-named, origin-below, origin-long}
 use Rattle.alb_trace.proofs.LimitLemmas.{products-few, origins-few}
 
-module _ (ls : List Linear) (t : Table) (g : IsRightFor (map form ls) t) (w : List ℕ) (ty : IsProductType t w) where
+module _ (ls : List Linear) (t : Table) (g : IsRightOver (map form ls) t) (w : List ℕ) (ty : IsProductType t w) where
   -- a type has at most 4096 products
   pub few-products : length (products t.parts w) ≤ 4096
   few-products = products-few (map form ls) t w g ty.covered ty.long (omega (arith, ty.big))

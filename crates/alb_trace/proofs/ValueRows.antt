@@ -25,12 +25,12 @@ use Rattle.alb_table.proofs.Numbers.{coefficient-reindex}
 use Rattle.alb_table.proofs.Right.{right-table}
 use Rattle.alb_table.proofs.Values.{value-stands}
 use Rattle.alb_query.proofs.ValueLemmas.{columns-below, apart, row-alike}
-use Rattle.alb_trace.specs.Given.{IsRightFor, IsPartOf, IsValueRow}
+use Rattle.alb_trace.specs.Given.{IsRightOver, IsPartOf, IsValueRow}
 
 one : {p : ℕ} (f : Poly) → Alike p (scale 1 f ++ []) f
 one f = equal _ _ (λ w. let e : weigh w [] ≡ 0 = refl in omega (arith, weigh-append w (scale 1 f) [], weigh-scale w 1 f))
 
-module _ (fs : List Form) (t : Table) (g : IsRightFor fs t) where
+module _ (fs : List Form) (t : Table) (g : IsRightOver fs t) where
   pub pos : 0 < t.p
   pos = omega (arith, above_one t g.table)
 
