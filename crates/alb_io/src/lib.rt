@@ -23,6 +23,3 @@ pub use sink::{Sink, WriteFault};
 pub use source::{Failed, Source};
 pub use status::Status;
 pub use step::LineStep;
-
-#[cfg(test)]
-mod tests;

@@ -3,8 +3,6 @@
 
 mod error;
 mod lexing;
-#[cfg(test)]
-mod tests;
 mod token;
 
 pub use error::LexError;

@@ -7,8 +7,6 @@ mod letters;
 mod mono;
 mod multi;
 mod side;
-#[cfg(test)]
-mod tests;
 mod types;
 
 pub use error::NoMemory;

@@ -11,8 +11,6 @@ mod rules;
 mod runs;
 mod substitution;
 mod term;
-#[cfg(test)]
-mod tests;
 
 pub use poly::Poly;
 pub use rules::{Linear, Rules};

@@ -12,6 +12,3 @@ pub use mono::write_mono;
 pub use multi::write_type;
 pub use number::{write_count, write_named, write_number};
 pub use poly::{write_later_coefficient, write_leading_coefficient, write_poly};
-
-#[cfg(test)]
-mod tests;

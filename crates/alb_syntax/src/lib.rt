@@ -7,8 +7,6 @@ mod operations;
 mod reading;
 mod setting;
 mod sums;
-#[cfg(test)]
-mod tests;
 
 pub use error::SyntaxError;
 pub use monomial::read_mono;

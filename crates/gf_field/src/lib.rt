@@ -13,8 +13,6 @@ use std::marker::Model;
 use thiserror::Error;
 
 pub mod laws;
-#[cfg(test)]
-mod tests;
 
 /// An element of a field: a number below the field's `p`.
 pub type Residue = u16;
