@@ -1,16 +1,16 @@
 -- A line as it is read piece by piece.
-use Rattle.std.proofs.Common.{◌≡◌, ◌≢◌, ◌⊎◌, ℕ, ◌+◌, ◌-◌, ◌<◌, true, false, List, [], ◌∷◌, ◌++◌, length, Option, Some, refl, sym, ap, ◌∙◌, subst, inl, inr, append_assoc, arith, eqb, eqb-true}
+use Rattle.std.proofs.Common.{◌≡◌, ◌≢◌, ◌⊎◌, ℕ, ◌+◌, ◌-◌, ◌<◌, ◌≤◌, true, false, List, [], ◌∷◌, ◌++◌, length, drop, Option, Some, refl, sym, ap, ◌∙◌, subst, inl, inr, append_assoc, arith, eqb, eqb-true}
 use Rattle.std.specs.Io.KnownBytes.{Consumes, IsAtEnd, Keeps}
 use Rattle.std.proofs.KnownBytes.{Consumes-nil, Consumes-trans, Consumes-kept}
-use Rattle.std.proofs.lemmas.List.{append-nil, length-append, nil_from_length}
+use Rattle.std.proofs.lemmas.List.{append-nil, length-append, length-take, nil_from_length}
 use Rattle.alb_io.specs.Lines.{HasNoFeed}
 use Rattle.alb_io.specs.Reader.{Reads, Lazily, Gives, IsFirst}
-use Rattle.alb_io.specs.Feeder.{held_of, IsGathered, IsStep, MovesPart, TakesPiece, reader_of, is_line, is_last}
+use Rattle.alb_io.specs.Feeder.{held_of, IsFeeder, IsGathered, IsStep, MovesPart, TakesPiece, reader_of, is_line, is_last}
 use Rattle.alb_io.specs.declared.feeder.Feeder.{Feeder}
 use Rattle.alb_io.specs.declared.feeder.Gathered.{Gathered}
 use Rattle.alb_io.specs.declared.step.LineStep.{LineStep}
 use Rattle.alb_io.specs.declared.step.LineStep.TheVariants as step
-use Rattle.alb_io.proofs.LineLemmas.{HasNoFeed-append}
+use Rattle.alb_io.proofs.LineLemmas.{HasNoFeed-append, true_is_not}
 
 -- so far these bytes were taken, and all went to the line but what is held
 pub record Piecing (old new : Feeder) (g : Gathered) (before now : Option (List ℕ)) : Type 0 where
@@ -25,9 +25,6 @@ pub record Piecing (old new : Feeder) (g : Gathered) (before now : Option (List 
   pub seen : new.at_end ≡ true → (old.at_end ≡ true) ⊎ (IsAtEnd now × (0 < new.room))
   pub lazy : Lazily (held_of old) got
 
-true_is_not : true ≡ false → ⊥
-true_is_not e = cc
-
 pub Piecing-start : (f : Feeder) (g : Gathered) (before : Option (List ℕ)) → IsGathered [] g → Piecing f f g before before
 Piecing-start f g before empty = record {
   got = [];
@@ -41,6 +38,9 @@ Piecing-start f g before empty = record {
   seen = λ e. inl e;
   lazy = inl refl;
 }
+
+held_few : (f : Feeder) → IsFeeder f → length (held_of f) ≤ 4096
+held_few f is = omega (arith, is.1, length-take (f.to - f.from) (drop f.from f.chunk))
 
 nothing_held : (f : Feeder) → f.from ≡ f.to → held_of f ≡ []
 nothing_held f same = let none : f.to - f.from ≡ 0 = omega arith in rw none refl
@@ -83,10 +83,10 @@ Piecing-fill old mid new g before between now none running p t = record {
 
 -- an answer to what was read so far
 pub Piecing-gives : (old mid new : Feeder) (g h : Gathered) (before now : Option (List ℕ)) (answer : LineStep) (p : Piecing old mid g before now)
-    → new.room ≡ mid.room → new.at_end ≡ mid.at_end
+    → IsFeeder new → new.room ≡ mid.room → new.at_end ≡ mid.at_end
     → Gives answer (held_of old ++ p.got) (reader_of new h.bytes.items (is_line answer) (is_last answer))
     → Reads answer (reader_of old [] false false) (reader_of new h.bytes.items (is_line answer) (is_last answer)) before now
-Piecing-gives old mid new g h before now answer p room at_end gives = record {
+Piecing-gives old mid new g h before now answer p is room at_end gives = record {
   got = p.got;
   consumed = p.consumed;
   room = omega (arith, p.room);
@@ -94,6 +94,8 @@ Piecing-gives old mid new g h before now answer p room at_end gives = record {
   at_end = λ e. ((p.at_end e).0, at_end ∙ (p.at_end e).1);
   seen = λ e. elim (p.seen (sym at_end ∙ e)) [ inl was ↦ inl was | inr end ↦ inr (end.0, omega (arith, end.1)) ];
   lazy = p.lazy;
+  few = held_few new is;
+  drained = λ e. (nothing_held new (is.2 e).0, (is.2 e).1);
 }
 
 -- a whole line, as one that fits or one that does not
@@ -106,38 +108,38 @@ Gives-step bytes line f h step.ReadFault s first = absurd s
 Gives-step bytes line f h step.InputLimit s first = absurd s
 
 -- a line feed was found
-pub Reads-line : (old mid new : Feeder) (g h : Gathered) (before now : Option (List ℕ)) (answer : LineStep) → Piecing old mid g before now → MovesPart true mid new g h
+pub Reads-line : (old mid new : Feeder) (g h : Gathered) (before now : Option (List ℕ)) (answer : LineStep) → Piecing old mid g before now → MovesPart true mid new g h → IsFeeder new
     → ((all : List ℕ) → IsGathered all h → IsStep all h.bytes.items answer)
     → Reads answer (reader_of old [] false false) (reader_of new h.bytes.items (is_line answer) (is_last answer)) before now
-Reads-line old mid new g h before now answer p m step =
+Reads-line old mid new g h before now answer p m is step =
     let line = p.all ++ m.0 in
     let whole : held_of old ++ p.got ≡ line ++ 10 ∷ held_of new = p.moved ∙ ap (λ r. p.all ++ r) m.2 ∙ sym (append_assoc p.all m.0 (10 ∷ held_of new)) in
-    Piecing-gives old mid new g h before now answer p m.4 m.5
+    Piecing-gives old mid new g h before now answer p is m.4 m.5
     (Gives-step _ line new h answer (step line (m.3 p.all p.gathered)) (HasNoFeed-append p.all m.0 p.no_feed m.1, inl whole))
 
 -- the source ended behind bytes with no line feed
-pub Reads-rest : (old new : Feeder) (h : Gathered) (before now : Option (List ℕ)) (answer : LineStep) → Piecing old new h before now → new.from ≡ new.to → new.at_end ≡ true
+pub Reads-rest : (old new : Feeder) (h : Gathered) (before now : Option (List ℕ)) (answer : LineStep) → Piecing old new h before now → IsFeeder new → new.from ≡ new.to → new.at_end ≡ true
     → ((all : List ℕ) → IsGathered all h → IsStep all h.bytes.items answer)
     → ((all : List ℕ) → IsGathered all h → false ≡ eqb (length all) 0)
     → Reads answer (reader_of old [] false false) (reader_of new h.bytes.items (is_line answer) (is_last answer)) before now
-Reads-rest old new h before now answer p none end step some =
+Reads-rest old new h before now answer p is none end step some =
     let whole : held_of old ++ p.got ≡ p.all = p.moved ∙ ap (λ r. p.all ++ r) (nothing_held new none) ∙ append-nil p.all in
     let filled : p.all ≢ [] = λ e. true_is_not (sym (ap (λ l. eqb (length l) 0) e) ∙ sym (some p.all p.gathered)) in
-    Piecing-gives old new new h h before now answer p refl refl
+    Piecing-gives old new new h h before now answer p is refl refl
     (Gives-step _ p.all new h answer (step p.all p.gathered) (p.no_feed, inr (whole, filled, nothing_held new none, end)))
 
-pub Reads-end : (old new : Feeder) (h : Gathered) (before now : Option (List ℕ)) → Piecing old new h before now → new.from ≡ new.to → new.at_end ≡ true
+pub Reads-end : (old new : Feeder) (h : Gathered) (before now : Option (List ℕ)) → Piecing old new h before now → IsFeeder new → new.from ≡ new.to → new.at_end ≡ true
     → ((all : List ℕ) → IsGathered all h → true ≡ eqb (length all) 0)
     → Reads step.End (reader_of old [] false false) (reader_of new h.bytes.items false true) before now
-Reads-end old new h before now p none end empty =
+Reads-end old new h before now p is none end empty =
     let nil : p.all ≡ [] = nil_from_length p.all (eqb-true _ _ (sym (empty p.all p.gathered))) in
     let whole : held_of old ++ p.got ≡ [] = p.moved ∙ ap (λ r. p.all ++ r) (nothing_held new none) ∙ append-nil p.all ∙ nil in
-    Piecing-gives old new new h h before now step.End p refl refl (whole, refl, nothing_held new none, end, refl)
+    Piecing-gives old new new h h before now step.End p is refl refl (whole, refl, nothing_held new none, end, refl)
 
-pub Reads-limit : (old new : Feeder) (h : Gathered) (before now : Option (List ℕ)) → Piecing old new h before now → new.from ≡ new.to → new.at_end ≡ false → new.room ≡ 0
+pub Reads-limit : (old new : Feeder) (h : Gathered) (before now : Option (List ℕ)) → Piecing old new h before now → IsFeeder new → new.from ≡ new.to → new.at_end ≡ false → new.room ≡ 0
     → Reads step.InputLimit (reader_of old [] false false) (reader_of new h.bytes.items false true) before now
-Reads-limit old new h before now p none running full =
-    Piecing-gives old new new h h before now step.InputLimit p refl refl (no_feed_so_far old new h before now p none, refl, running, full, refl)
+Reads-limit old new h before now p is none running full =
+    Piecing-gives old new new h h before now step.InputLimit p is refl refl (no_feed_so_far old new h before now p none, refl, running, full, refl)
 
 Piecing-kept : (old mid : Feeder) (h : Gathered) (before between now : Option (List ℕ)) → Piecing old mid h before between → Keeps between now → mid.at_end ≡ false → Piecing old mid h before now
 Piecing-kept old mid h before between now p kept running = record {
@@ -153,10 +155,10 @@ Piecing-kept old mid h before between now p kept running = record {
   lazy = p.lazy;
 }
 
-pub Reads-fault : (old mid new : Feeder) (h : Gathered) (before between now : Option (List ℕ)) → Piecing old mid h before between → mid.from ≡ mid.to
+pub Reads-fault : (old mid new : Feeder) (h : Gathered) (before between now : Option (List ℕ)) → Piecing old mid h before between → IsFeeder new → mid.from ≡ mid.to
     → (new.from ≡ new.to) × (new.room ≡ mid.room) × (new.at_end ≡ false) × Keeps between now → mid.at_end ≡ false
     → Reads step.ReadFault (reader_of old [] false false) (reader_of new h.bytes.items false true) before now
 unfolding Piecing-kept
-Reads-fault old mid new h before between now p none kept running =
-    Piecing-gives old mid new h h before now step.ReadFault (Piecing-kept old mid h before between now p kept.3 running)
+Reads-fault old mid new h before between now p is none kept running =
+    Piecing-gives old mid new h h before now step.ReadFault (Piecing-kept old mid h before between now p kept.3 running) is
     kept.1 (kept.2 ∙ sym running) (no_feed_so_far old mid h before between p none, refl, kept.2, refl)

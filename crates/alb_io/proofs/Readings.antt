@@ -1,13 +1,14 @@
 -- What the calls of `next_line` say of the lines of the bytes, over many calls.
-use Rattle.std.proofs.Common.{◌≡◌, ◌≢◌, ◌⊎◌, ℕ, Bool, true, false, cond, List, [], ◌∷◌, ◌++◌, Option, Some, None, refl, sym, ap, ◌∙◌, subst, inl, inr, append_assoc, eqb, arith, rules}
+use Rattle.std.proofs.Common.{◌≡◌, ◌≢◌, ◌⊎◌, ℕ, ◌≤◌, length, Bool, true, false, cond, List, [], ◌∷◌, ◌++◌, Option, Some, None, refl, sym, ap, ◌∙◌, subst, inl, inr, append_assoc, eqb, arith, rules}
 use Rattle.std.specs.Io.KnownBytes.{Consumes, IsAtEnd}
 use Rattle.std.proofs.KnownBytes.{Consumes-nil, Consumes-trans}
 use Rattle.std.proofs.lemmas.List.{append-nil}
 use Rattle.alb_io.specs.Lines.{HasNoFeed, onto_first, onto_whole, lines_of, whole_lines}
 use Rattle.alb_io.specs.Reader.{Reader, Reads, IsFirst}
-use Rattle.alb_io.specs.Reading.{HasRead, IsAll, Reading}
+use Rattle.alb_io.specs.Reading.{HasRead, IsAll, Reading, TakesLines}
 use Rattle.alb_io.specs.declared.step.LineStep.{LineStep}
 use Rattle.alb_io.specs.declared.step.LineStep.TheVariants as step
+use Rattle.alb_io.proofs.LineLemmas.{true_is_not}
 
 no_feed_test : (b : ℕ) → b ≢ 10 → eqb b 10 ≡ false
 no_feed_test b ne = search (rules, arith)
@@ -81,9 +82,6 @@ IsAll-at_end None now taken p end = tt
 IsAll-at_end (Some x) None taken p end = absurd p
 IsAll-at_end (Some x) (Some y) taken p end = p ∙ ap (λ l. taken ++ l) end ∙ append-nil taken
 
-true_is_not : true ≡ false → ⊥
-true_is_not e = cc
-
 either_end : (b : Bool) → (b ≡ true) ⊎ (b ≡ false)
 either_end true = inl refl
 either_end false = inr refl
@@ -93,6 +91,8 @@ Reading-start reader first none running = record {
   consumed = Consumes-nil first;
   so_far = λ e. subst (HasRead [] []) (sym none) HasRead-start;
   at_end = λ e. absurd (true_is_not (sym e ∙ running));
+  few = let empty : length reader.held ≡ 0 = ap length none in omega (arith, empty);
+  drained = λ e. absurd (true_is_not (sym e ∙ running));
 }
 
 -- what a call took, before its answer is looked at: the bytes and whether the end is known to be there
@@ -132,6 +132,8 @@ Reading-first taken lines line old new first before now answer p r f = record {
     lines_got taken lines old new first before now answer p r ∙ ap (λ l. lines ++ l) (lines_of-first line _ new.held new.at_end f) ∙ sym (append_assoc lines (line ∷ []) (lines_of new.held)),
     Reading-got taken lines old new first before now answer p r end,
   );
+  few = r.few;
+  drained = r.drained;
 }
 
 -- the end came: these are the lines of all the bytes
@@ -152,6 +154,31 @@ Reading-cut taken lines old new first before now answer p r none running = (
   HasRead-whole (taken ++ r.got) lines (old.held ++ r.got)
       (HasRead-got taken lines old.held r.got (p.so_far (before_end old.at_end new.at_end (λ e. (r.at_end e).1) running))) none,
 )
+
+takes_all : (taken : List ℕ) (lines : List (List ℕ)) (held : List ℕ) → lines_of taken ≡ lines ++ lines_of held → held ≡ [] → TakesLines taken lines
+takes_all taken lines held is none = record {
+  front = taken;
+  more = [];
+  bytes = sym (append-nil taken);
+  lines_are = is ∙ ap (λ l. lines ++ lines_of l) none ∙ append-nil lines;
+  few = omega arith;
+}
+
+takes_front : (taken : List ℕ) (lines : List (List ℕ)) (held : List ℕ) → HasRead taken lines held → length held ≤ 4096 → TakesLines taken lines
+takes_front taken lines held p few = record {
+  front = p.front;
+  more = held;
+  bytes = p.bytes;
+  lines_are = ap lines_of (sym (append-nil p.front)) ∙ p.lines_so_far [] ∙ append-nil lines;
+  few = few;
+}
+
+-- no more was taken than the lines that were given, but for one piece
+pub Reading-takes : (taken : List ℕ) (lines : List (List ℕ)) (reader : Reader) (first now : Option (List ℕ)) → Reading taken lines reader first now → TakesLines taken lines
+Reading-takes taken lines reader first now p = elim (either_end reader.at_end) [
+  | inl end ↦ takes_all taken lines reader.held (p.at_end end).0 (p.drained end).0
+  | inr running ↦ takes_front taken lines reader.held (p.so_far running) p.few
+]
 
 lines_of_input : (taken : List ℕ) (lines : List (List ℕ)) (unread input : List ℕ) (now : Option (List ℕ)) → Consumes (Some input) now taken → HasRead taken lines unread
     → (more : List (List ℕ)) × (lines_of input ≡ lines ++ more)

@@ -1,5 +1,5 @@
 -- Files in memory, by their names.
-use Rattle.std.proofs.Common.{◌≡◌, ℕ, ◌+◌, ◌<◌, ◌≤◌, Contains, MatchOption, IfSome, arith, Bool, true, false, cond, List, [], ◌∷◌, length, get_or, drop, map, Option, Some, None, refl, sym, ap, ◌∙◌, subst}
+use Rattle.std.proofs.Common.{◌≡◌, ℕ, ◌+◌, ◌<◌, ◌≤◌, Contains, MatchOption, arith, Bool, true, false, cond, List, [], ◌∷◌, length, get_or, drop, map, Option, Some, None, refl, sym, ap, ◌∙◌, subst}
 use Rattle.std.proofs.lemmas.List.{at_drop_more}
 use Rattle.std.proofs.lemmas.Map.Text.{is_eq-slice_cmp}
 use Rattle.std.specs.Cmp.Lexicographic.{slice_cmp}
@@ -52,11 +52,10 @@ find-file_named name (f ∷ stored) =
 pub get-files_of : (name : List ℕ) (stored : List Stored) → files.get (files_of stored) name ≡ option_map (λ (f : Stored). f.bytes) (file_named name stored)
 get-files_of name stored = files.get-from_entries nat_list_cmp_total (map (λ (f : Stored). (f.name, f.bytes)) stored) name ∙ find-file_named name stored
 
--- what was found has the bytes that the desk tells of its name
+-- what was found has its name among the files, and the bytes that the desk tells of it
 pub HasFile-named : (name : List ℕ) (stored : List Stored) (f : Stored) (left : List ℕ) → file_named name stored ≡ Some f → left ≡ f.bytes
     → HasFile (Some (files_of stored)) name (Some left)
-HasFile-named name stored f left is same =
-    subst (λ (o : Option (List ℕ)). IfSome o (λ bytes. Some left ≡ Some bytes)) (sym (get-files_of name stored ∙ ap (option_map (λ (g : Stored). g.bytes)) is)) (ap Some same)
+HasFile-named name stored f left is same = (f.bytes, get-files_of name stored ∙ ap (option_map (λ (g : Stored). g.bytes)) is, ap Some same)
 
 -- a name among the files is found
 pub IsFile-named : (name : List ℕ) (stored : List Stored) → file_named name stored ≡ None → IsFile (Some (files_of stored)) name → ⊥

@@ -12,9 +12,9 @@ use Rattle.alb_io.specs.declared.step.LineStep.TheVariants as step
 abbrev pub held_of : Feeder → List ℕ
 held_of f = slice_range f.chunk f.from f.to
 
--- the places are in the chunk
+-- the places are in the chunk, and where the end was seen nothing is held, and more might have been taken
 abbrev pub IsFeeder : Feeder → Type 0
-IsFeeder f = (f.from ≤ f.to) × (f.to ≤ 4096)
+IsFeeder f = (f.from ≤ f.to) × (f.to ≤ 4096) × (f.at_end ≡ true → (f.from ≡ f.to) × (0 < f.room))
 
 -- the line as far as it was read is all
 abbrev pub IsGatheredBy : Bool → List ℕ → List ℕ → Type 0

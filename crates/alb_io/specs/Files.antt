@@ -1,5 +1,5 @@
 -- The files of a desk, by their names.
-use Rattle.std.specs.Prelude.{◌≡◌, ◌≢◌, ℕ, ◌≤◌, List, Option, None, Some, Result, MatchResult, IfSome}
+use Rattle.std.specs.Prelude.{◌≡◌, ◌≢◌, ℕ, ◌≤◌, List, Option, None, Some, Result, MatchResult}
 use Rattle.std.specs.Ordering.{nat_cmp}
 use Rattle.std.specs.Cmp.Lexicographic.{slice_cmp}
 use Rattle.std.specs.FinMap as map
@@ -15,10 +15,10 @@ Files = map.FinMap (slice_cmp nat_cmp) (List ℕ)
 abbrev pub bytes_of : Files → List ℕ → Option (List ℕ)
 bytes_of files name = map.get files name
 
--- where the desk tells its files, the source has left what the file of that name has
+-- where the desk tells its files, the name is among them, and the source has left the bytes of that file
 abbrev pub HasFile : Option Files → List ℕ → Option (List ℕ) → Type 0
 HasFile None name left = Unit {0}
-HasFile (Some files) name left = IfSome (bytes_of files name) (λ bytes. left ≡ Some bytes)
+HasFile (Some files) name left = (bytes : List ℕ) × (bytes_of files name ≡ Some bytes) × (left ≡ Some bytes)
 
 -- the name is among the files
 abbrev pub IsFile : Option Files → List ℕ → Type 0

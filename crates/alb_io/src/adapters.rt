@@ -7,8 +7,9 @@ use std::io::{Read, Write};
 use std::marker::Send;
 use std::rt::Files;
 
-/// A reader of std as a source. It tells nothing of content, and counts each error of the reader as
-/// a fault.
+/// A reader of std as a source. It tells the bytes that the reader has left, where the reader tells
+/// them (one over bytes in memory does, a file or a stream of the system does not), and counts each
+/// error of the reader as a fault.
 #[derive(Drop)]
 pub struct StdSource<R: Read> {
     inner: R,
@@ -18,14 +19,15 @@ pub struct StdSource<R: Read> {
 impl<R: Read> StdSource<R> {
     /// The reader with a count of faults of 0.
     pub fn new(inner: R) -> StdSource<R>
-        ensures { ⟦<StdSource<R> as Source>⟧.faults result ≡ 0 }
+        ensures fresh { ⟦<StdSource<R> as Source>⟧.faults result ≡ 0 }
+        ensures left { ⟦<StdSource<R> as Source>⟧.left result ≡ R.remaining inner }
     {
         StdSource { inner, faults: 0 }
     }
 }
 
 impl<R: Read> Source for StdSource<R> {
-    ghost left = { λ _. None };
+    ghost left = { λ s. R.remaining s.inner };
 
     ghost faults = { λ s. s.faults };
 
@@ -42,8 +44,9 @@ impl<R: Read> Source for StdSource<R> {
     }
 }
 
-/// A writer of std as a sink. It tells nothing of content, and counts each error of the writer and
-/// each write of 0 bytes as a fault.
+/// A writer of std as a sink. It tells the bytes that the writer holds, where the writer tells them
+/// (one into memory does, a file or a stream of the system does not), and counts each error of the
+/// writer and each write of 0 bytes as a fault.
 #[derive(Drop)]
 pub struct StdSink<W: Write> {
     inner: W,
@@ -53,14 +56,15 @@ pub struct StdSink<W: Write> {
 impl<W: Write> StdSink<W> {
     /// The writer with a count of faults of 0.
     pub fn new(inner: W) -> StdSink<W>
-        ensures { ⟦<StdSink<W> as Sink>⟧.faults result ≡ 0 }
+        ensures fresh { ⟦<StdSink<W> as Sink>⟧.faults result ≡ 0 }
+        ensures taken { ⟦<StdSink<W> as Sink>⟧.taken result ≡ W.contents inner }
     {
         StdSink { inner, faults: 0 }
     }
 }
 
 impl<W: Write> Sink for StdSink<W> {
-    ghost taken = { λ _. None };
+    ghost taken = { λ s. W.contents s.inner };
 
     ghost name = { λ _. None };
 
@@ -77,8 +81,8 @@ impl<W: Write> Sink for StdSink<W> {
     }
 }
 
-/// The files of the system as a desk. It tells nothing of content, and counts each file that could
-/// not be opened or created as a fault.
+/// The files of the system as a desk. std tells neither which files there are nor what one holds, so
+/// the desk tells no files. It counts each file that could not be opened or created as a fault.
 #[derive(Drop)]
 pub struct FileDesk<R: Files + Drop> {
     rt: R,

@@ -1,31 +1,12 @@
 -- The rules of identities, term by term.
-use Rattle.std.proofs.Common.{◌≡◌, ◌≢◌, ℕ, zero, suc, ◌+◌, ◌<◌, ◌≤◌, Bool, true, false, List, [], ◌∷◌, ◌++◌, drop, length, get_or, sum, Some, sym, refl, ap, ◌∙◌, arith, drop-cons, add-one, append_assoc, eqb, ◌&&◌, inl, inr}
-use Rattle.std.proofs.lemmas.Bool.{cases_Bool, false≢true, eqb-true, eq-eqb}
+use Rattle.std.proofs.Common.{◌≡◌, ◌≢◌, ℕ, zero, suc, ◌+◌, ◌<◌, ◌≤◌, true, List, [], ◌∷◌, ◌++◌, drop, length, get_or, sum, Some, sym, refl, ap, ◌∙◌, arith, drop-cons, add-one, append_assoc, inl, inr}
+use Rattle.std.proofs.lemmas.Bool.{cases_Bool}
 use Rattle.std.proofs.lemmas.List.{length-append}
 use Rattle.alb_mono.specs.Tree.{Tree, type_of}
 use Rattle.alb_poly.specs.Poly.{Poly, list_eq}
 use Rattle.alb_linear.specs.Identity.{leading_type, other_term, type_fault, identity_fault, Zero, variables}
 use Rattle.alb_poly.proofs.Multilinear.{sum_cons}
-
-pub list_eq-itself : (xs : List ℕ) → list_eq xs xs ≡ true
-list_eq-itself [] = refl
-list_eq-itself (x ∷ xs) = rw (eq-eqb x x refl) (list_eq-itself xs)
-
-and_left : (a b : Bool) → (a && b) ≡ true → a ≡ true
-and_left true b h = refl
-and_left false b h = h
-
-and_right : (a b : Bool) → (a && b) ≡ true → b ≡ true
-and_right true b h = h
-and_right false b h = absurd (false≢true h)
-
-pub list_eq-sound : (xs ys : List ℕ) → list_eq xs ys ≡ true → xs ≡ ys
-list_eq-sound [] [] h = refl
-list_eq-sound [] (y ∷ ys) h = absurd (false≢true h)
-list_eq-sound (x ∷ xs) [] h = absurd (false≢true h)
-list_eq-sound (x ∷ xs) (y ∷ ys) h =
-    let p : x ≡ y = eqb-true x y (and_left (eqb x y) (list_eq xs ys) h) in
-    let q : xs ≡ ys = list_eq-sound xs ys (and_right (eqb x y) (list_eq xs ys) h) in cc
+pub use Rattle.alb_poly.proofs.Types.{list_eq-itself, list_eq-sound}
 
 other_same : (e : List ℕ) (t : ℕ × Tree) (f : Poly) → type_of 26 t.1 ≡ e → other_term e (t ∷ f) ≡ other_term e f
 other_same e t f h = let q : list_eq (type_of 26 t.1) e ≡ true = ap (λ z. list_eq z e) h ∙ list_eq-itself e in rw q

@@ -1,15 +1,17 @@
 -- What breaks no rule is a homogeneous identity, and the other way round.
-use Rattle.std.proofs.Common.{◌≡◌, ◌≢◌, ℕ, ◌<◌, ◌≤◌, ◌==◌, true, false, List, [], ◌∷◌, length, sum, Option, Some, None, sym, refl, ap, ◌∙◌, subst, arith, ltb}
-use Rattle.std.proofs.lemmas.Grind.{same_number_lists}
+use Rattle.std.proofs.Common.{◌≡◌, ◌≢◌, ℕ, ◌%◌, ◌≤◌, ◌==◌, true, false, List, [], ◌∷◌, length, sum, Option, Some, None, refl, ap, ◌∙◌, subst, arith, ltb}
 use Rattle.std.proofs.lemmas.Bool.Decides.{nat_tests}
+use Rattle.gf_sums.specs.Sums.{coefficient, IsCanonical}
 use Rattle.alb_mono.specs.Listing.{Each}
-use Rattle.alb_mono.specs.Tree.{Tree, degree, type_of, AreBelow}
-use Rattle.alb_mono.proofs.Leaves.{sum-type_of, length-type_of, get-type}
+use Rattle.alb_mono.proofs.ListingLemmas.{each-weaker}
+use Rattle.alb_mono.specs.Tree.{Tree, degree, type_of, AreBelow, cmp_monos, same_tree}
+use Rattle.alb_mono.proofs.Leaves.{sum-type_of}
 use Rattle.alb_poly.specs.Poly.{Poly, list_eq}
 use Rattle.alb_poly.specs.Identity.{HasType, IsHomogeneous}
+use Rattle.alb_poly.proofs.Types.{list_eq-itself, has_type-is, has_type-whole}
+use Rattle.alb_poly.proofs.Terms.{canonical-nonzero, of_terms}
 use Rattle.alb_linear.specs.Identity.{leading_type, other_term, type_fault, degree_fault, identity_fault, DegreeOne}
 use Rattle.alb_linear.specs.Laws.{IsHomogeneousIdentity}
-use Rattle.alb_linear.proofs.IdentityLemmas.{list_eq-itself}
 use Rattle.alb_linear.proofs.LinearLemmas.{IsFit, identity-fits, homogeneous, same_type, length-leading, degree-pos, test_from_below}
 
 not-one : (n : ℕ) → degree_fault n ≡ None → n ≢ 1
@@ -26,23 +28,24 @@ leading-low (t ∷ f) b h =
     no_type_fault e None h = h
     no_type_fault e (Some m) h = absurd (cc)
 
-pub accepted : (f : Poly) → Each (λ t. AreBelow 26 t.1) f → identity_fault f ≡ None → (e : List ℕ) × IsHomogeneousIdentity e f
-accepted f b h =
-    let fit : IsFit f = identity-fits f h in (
-      leading_type f,
+pub accepted : (p : ℕ) (f : Poly) → IsCanonical cmp_monos p f → Each (λ t. AreBelow 26 t.1) f → identity_fault f ≡ None → (e : List ℕ) × IsHomogeneousIdentity p e f
+accepted p [] c b h = absurd (cc)
+accepted p (t ∷ f) c b h =
+    let fit : IsFit (t ∷ f) = identity-fits (t ∷ f) h in
+    let e : List ℕ = type_of 26 t.1 in (
+      e,
       record {
-        letters = length-leading f fit.nonzero;
-        nonzero = fit.nonzero;
-        homogeneous = homogeneous (leading_type f) f b (same_type (leading_type f) f fit.one_type);
-        low = leading-low f b h;
+        letters = length-leading (t ∷ f) fit.nonzero;
+        occurs = t.1;
+        nonzero = (canonical-nonzero p (t ∷ f) c).0;
+        homogeneous = of_terms (HasType e) p (t ∷ f) (omega (arith, c.1)) (homogeneous e (t ∷ f) b (same_type e (t ∷ f) fit.one_type));
+        low = leading-low (t ∷ f) b h;
         high = fit.small;
       },
     )
 
 type-is : (e : List ℕ) (m : Tree) → length e ≡ 26 → HasType e m → type_of 26 m ≡ e
-type-is e m n h =
-    same_number_lists (type_of 26 m) e (length-type_of 26 m ∙ sym n)
-    (λ k l. let u : k < 26 = omega (arith, length-type_of 26 m, l) in get-type 26 m k u ∙ h.counts k (omega (arith, n, u)))
+type-is e m n h = has_type-is 26 e m n (has_type-whole e m h)
 
 none-other : (e : List ℕ) (f : Poly) → length e ≡ 26 → IsHomogeneous e f → other_term e f ≡ None
 none-other e [] n h = refl
@@ -55,7 +58,12 @@ no-degree-fault n low high =
     let a : (n == 1) ≡ false = grind (arith, nat_tests) in
     let b : ltb 8 n ≡ false = grind (arith, nat_tests) in rw (a, b)
 
-pub accepts : (e : List ℕ) (f : Poly) → IsHomogeneousIdentity e f → identity_fault f ≡ None
-accepts e [] h = absurd (omega (arith, h.nonzero))
-accepts e (t ∷ f) h =
-    rw (type-is e t.1 h.letters h.homogeneous.0, none-other e f h.letters h.homogeneous.1) (no-degree-fault (sum e) h.low h.high)
+nonzero-types : (p : ℕ) (e : List ℕ) (whole f : Poly) → ((m : Tree) → coefficient same_tree whole m % p ≢ 0 → HasType e m) →
+    Each (λ t. coefficient same_tree whole t.1 % p ≢ 0) f → IsHomogeneous e f
+nonzero-types p e whole f h k = each-weaker (λ t. coefficient same_tree whole t.1 % p ≢ 0) (λ t. HasType e t.1) f (λ t ne. h t.1 ne) k
+
+pub accepts : (p : ℕ) (e : List ℕ) (f : Poly) → IsCanonical cmp_monos p f → IsHomogeneousIdentity p e f → identity_fault f ≡ None
+accepts p e [] c h = absurd (h.nonzero (omega arith))
+accepts p e (t ∷ f) c h =
+    let hom : IsHomogeneous e (t ∷ f) = nonzero-types p e (t ∷ f) (t ∷ f) h.homogeneous (canonical-nonzero p (t ∷ f) c) in
+    rw (type-is e t.1 h.letters hom.0, none-other e f h.letters hom.1) (no-degree-fault (sum e) h.low h.high)

@@ -13,11 +13,11 @@ use Rattle.std.proofs.Math.Nat.{mul-le-mul_left, mul-le-mul_right}
 use Rattle.gf_sums.specs.Sums.{total, reindex}
 use Rattle.gf_sums.proofs.Totals.{total-equal, total-map}
 use Rattle.alb_mono.specs.Listing.{Each}
-use Rattle.alb_mono.proofs.ListingLemmas.{each-at, each-always}
+use Rattle.alb_mono.proofs.ListingLemmas.{each-always}
 use Rattle.alb_mono.specs.Tree.{Tree, leaf, node, degree, count, type_of, AreBelow, are_below}
 use Rattle.alb_mono.specs.Mono.{tree}
 use Rattle.alb_mono.specs.declared.mono.Mono.{Mono}
-use Rattle.alb_mono.proofs.Leaves.{below_from_test, length-type_of, get-type}
+use Rattle.alb_mono.proofs.Leaves.{below_from_test, length-type_of}
 use Rattle.alb_poly.specs.Poly.{Poly, list_eq, AreResidues}
 use Rattle.alb_poly.specs.Normal.{normal}
 use Rattle.alb_poly.specs.Terms.{term, terms}
@@ -28,6 +28,9 @@ use Rattle.alb_poly.proofs.Orders.{map-map, arrangements-map}
 use Rattle.alb_poly.proofs.Multilinear.{sum_cons, flat-each, each-flat, each-map, each-from, leaves-multilinear, multilinear-below, linearization-multilinear}
 use Rattle.alb_poly.proofs.Extra.{total-sum_by}
 use Rattle.alb_poly.proofs.NormalLemmas.{normal-each}
+use Rattle.alb_poly.proofs.Types.{has_type-sound, has_type-of}
+pub use Rattle.alb_poly.proofs.Types.{test_from_below}
+pub use Rattle.alb_poly.proofs.Multilinear.{each_from_all, all_from_each}
 use Rattle.alb_linear.specs.Identity.{leading_type, other_term, type_fault, degree_fault, identity_fault, DegreeOne, DegreeOver8, factorial, factorials}
 use Rattle.alb_linear.proofs.OrderLemmas.{length-arrangement_at}
 use Rattle.alb_linear.proofs.IdentityLemmas.{list_eq-sound, other-leading}
@@ -91,10 +94,6 @@ numbered-equal f g n (node l r) b h =
     let q : numbered (λ v. f v + count v l) r ≡ numbered (λ v. g v + count v l) r =
     numbered-equal (λ v. f v + count v l) (λ v. g v + count v l) n r b.1 (λ v k. ap (λ z. z + count v l) (h v k)) in cc
 
-pub test_from_below : (n : ℕ) (m : Tree) → AreBelow n m → are_below n m ≡ true
-test_from_below n (leaf k) h = grind (arith, nat_tests)
-test_from_below n (node l r) h = rw (test_from_below n l h.0) (test_from_below n r h.1)
-
 -- the positions as monomials
 positions-range : (k n : ℕ) → positions k n ≡ map leaf (range_with_len k n)
 positions-range k zero = refl
@@ -114,12 +113,7 @@ each-below [] = tt
 each-below (t ∷ ts) = (below_from_test 26 (tree t.mono) t.letters, each-below ts)
 
 pub type-has : (e : List ℕ) (m : Tree) → AreBelow 26 m → type_of 26 m ≡ e → HasType e m
-type-has e m b h =
-    let n : length e ≡ 26 = sym (ap length h) ∙ length-type_of 26 m in
-    record {
-      below = subst (λ k. AreBelow k m) (sym n) b;
-      counts = λ v k. sym (ap (λ z. get_or z v 0) (sym h) ∙ get-type 26 m v (omega arith));
-    }
+type-has e m b h = has_type-sound e m (has_type-of 26 e m (sym (ap length h) ∙ length-type_of 26 m) (test_from_below 26 m b) h)
 
 -- every term has the type of the leading one
 pub homogeneous : (e : List ℕ) (f : Poly) → Each (λ t. AreBelow 26 t.1) f → Each (λ t. type_of 26 t.1 ≡ e) f → IsHomogeneous e f
@@ -216,13 +210,6 @@ reindex_next h f i t m now next lt e q k g =
     g ∙ ap (λ z. z ++ (t.0, m) ∷ []) k ∙ ap (λ z. reindex h (take i f) ++ (t.0, z) ∷ []) q
     ∙ ap (λ (u : ℕ × Tree). reindex h (take i f) ++ (u.0, h u.1) ∷ []) e
     ∙ sym (ap (reindex h) (take_more f i t lt) ∙ map-append (λ t. (t.0, h t.1)) (take i f) (get_or f i t ∷ []))
-
-pub each_from_all : {X : Type 0} (P : X → Type 0) (xs : List X) → All P xs → Each P xs
-each_from_all P [] h = tt
-each_from_all P (x ∷ xs) h = (h 0 x (omega arith), each_from_all P xs (λ k d l. h (suc k) d (omega arith)))
-
-pub all_from_each : {X : Type 0} (P : X → Type 0) (xs : List X) → Each P xs → All P xs
-all_from_each P xs h k d l = each-at P xs k d h l
 
 each-terms : (P : Tree → Type 0) (ts : List Term) → Each (λ t. P t.1) (terms ts) → Each (λ (t : Term). P (tree t.mono)) ts
 each-terms P [] h = tt

@@ -46,12 +46,12 @@ variables k [] = []
 variables k (zero ∷ e) = variables (suc k) e
 variables k (suc n ∷ e) = (k, suc n) ∷ variables (suc k) e
 
--- an identity as `identity` gives it
+-- an identity as `Identity::of` gives it
 pub record IsIdentity (f : Identity) : Type 0 where
   pub no_fault : identity_fault f.poly ≡ None
   pub degrees : f.degrees.items ≡ variables 0 (leading_type f.poly)
 
--- what `identity` answers
+-- what `Identity::of` answers; it takes no memory
 abbrev pub Accepts : Result Identity IdentityError → Poly → Type 0
 Accepts (Ok f) poly = IsIdentity f × (f.poly ≡ poly)
 Accepts (Err errors.Zero) poly = identity_fault poly ≡ Some Zero
@@ -59,7 +59,7 @@ Accepts (Err (errors.NotHomogeneous m)) poly = identity_fault poly ≡ Some (Not
 Accepts (Err errors.DegreeOne) poly = identity_fault poly ≡ Some DegreeOne
 Accepts (Err errors.DegreeOver8) poly = identity_fault poly ≡ Some DegreeOver8
 Accepts (Err (errors.TooManyLinear n)) poly = ⊥
-Accepts (Err errors.NoMemory) poly = Unit {0}
+Accepts (Err errors.NoMemory) poly = ⊥
 
 abbrev pub factorial : ℕ → ℕ
 factorial zero = 1

@@ -1,25 +1,29 @@
 -- Laws that functions of `laws` state.
-use Rattle.std.specs.Prelude.{◌≡◌, ◌≤◌, ◌<◌, ◌↔◌, ℕ, List, length, sum, None}
+use Rattle.std.specs.Prelude.{◌≡◌, ◌≢◌, ◌≤◌, ◌%◌, ◌↔◌, ℕ, List, length, sum, None}
+use Rattle.gf_sums.specs.Sums.{coefficient, IsCanonical}
 use Rattle.alb_mono.specs.Listing.{Each}
-use Rattle.alb_mono.specs.Tree.{Tree, AreBelow}
+use Rattle.alb_mono.specs.Tree.{Tree, AreBelow, cmp_monos, same_tree}
 use Rattle.alb_poly.specs.Poly.{Poly, IsSamePoly}
 use Rattle.alb_poly.specs.Normal.{normal}
-use Rattle.alb_poly.specs.Identity.{IsHomogeneous}
+use Rattle.alb_poly.specs.Identity.{HasType, IsHomogeneous}
 use Rattle.alb_poly.specs.Instance.{identity_instance, instance, linearization}
 use Rattle.alb_linear.specs.Identity.{identity_fault}
 
--- a polynomial over the 26 letters that is not zero, whose terms are all of one type, of degree 2 to 8
-pub record IsHomogeneousIdentity (e : List ℕ) (f : Poly) : Type 0 where
+-- A polynomial over the 26 letters with some coefficient that is not 0 modulo `p`, where all monomials with such a coefficient
+-- have one type, of degree 2 to 8.
+pub record IsHomogeneousIdentity (p : ℕ) (e : List ℕ) (f : Poly) : Type 0 where
   pub letters : length e ≡ 26
-  pub nonzero : 0 < length f
-  pub homogeneous : IsHomogeneous e f
+  pub occurs : Tree
+  pub nonzero : coefficient same_tree f occurs % p ≢ 0
+  pub homogeneous : (m : Tree) → coefficient same_tree f m % p ≢ 0 → HasType e m
   pub low : 2 ≤ sum e
   pub high : sum e ≤ 8
 
--- what breaks no rule is a homogeneous identity, and a homogeneous identity breaks none
+-- a canonical list that breaks no rule is a homogeneous identity, and one that is a homogeneous identity breaks none
 abbrev pub IdentitiesAreAccepted : Type 0
 IdentitiesAreAccepted =
-    (f : Poly) → Each (λ t. AreBelow 26 t.1) f → (identity_fault f ≡ None) ↔ ((e : List ℕ) × IsHomogeneousIdentity e f)
+    (p : ℕ) (f : Poly) → IsCanonical cmp_monos p f → Each (λ t. AreBelow 26 t.1) f
+    → (identity_fault f ≡ None) ↔ ((e : List ℕ) × IsHomogeneousIdentity p e f)
 
 -- the instance of a linearization is that of the identity, at every list of monomials
 abbrev pub InstancesAreThoseOfTheIdentity : Type 0

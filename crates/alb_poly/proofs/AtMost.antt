@@ -1,17 +1,16 @@
 -- Monomials that are at most a target, and their degrees.
-use Rattle.std.proofs.Common.{◌≡◌, ℕ, zero, suc, ◌+◌, ◌%◌, ◌<◌, ◌≤◌, ◌⊎◌, Bool, true, false, ◌&&◌, List, [], ◌∷◌, length, sum, refl, ap, ◌∙◌, subst, arith, inl, inr, eqb, leb}
+use Rattle.std.proofs.Common.{◌≡◌, ℕ, zero, suc, ◌+◌, ◌<◌, ◌≤◌, true, false, List, [], ◌∷◌, length, sum, refl, arith, inl, inr, eqb, leb}
 use Rattle.std.specs.Bool.{if◌then◌else◌, IsTrue, ◌==◌}
-use Rattle.std.proofs.lemmas.Bool.{cases_Bool, cases_eq, false≢true}
+use Rattle.std.proofs.lemmas.Bool.{cases_eq}
 use Rattle.std.proofs.lemmas.Bool.Decides.{nat_tests}
-use Rattle.std.proofs.Math.Nat.{mod-eq_of_lt}
 use Rattle.alb_mono.specs.Listing.{Each}
-use Rattle.alb_mono.specs.Tree.{Tree, leaf, node, degree, count, listed, type_of, type_le, AreBelow, same_tree}
-use Rattle.gf_sums.specs.Sums.{coefficient}
+use Rattle.alb_mono.specs.Tree.{Tree, leaf, node, degree, count, listed, type_of, type_le, AreBelow}
+use Rattle.alb_mono.proofs.Both.{and_left, and_right}
 use Rattle.alb_poly.specs.Poly.{Poly}
 use Rattle.alb_poly.specs.Instance.{run}
 use Rattle.alb_poly.specs.Identity.{IsAtMost, IsWithin}
 use Rattle.alb_poly.proofs.Multilinear.{sum_cons}
-use Rattle.alb_poly.proofs.Consequence.{tree_tells}
+use Rattle.alb_poly.proofs.Terms.{of_terms}
 
 -- ---- degrees within a target
 
@@ -30,14 +29,6 @@ pub degree-counts : (n : ℕ) (m : Tree) → AreBelow n m → degree m ≤ run (
 degree-counts n (leaf k) h = run-here k 0 n (omega arith) (omega arith)
 degree-counts n (node l r) h = omega (arith, degree-counts n l h.0, degree-counts n r h.1, run-plus_both (λ g. count g l) (λ g. count g r) 0 n)
 
-and_left : (a b : Bool) → IsTrue (a && b) → IsTrue a
-and_left true b h = refl
-and_left false b h = h
-
-and_right : (a b : Bool) → IsTrue (a && b) → IsTrue b
-and_right true b h = h
-and_right false b h = absurd (false≢true h)
-
 pub run-at_most : (f : ℕ → ℕ) (k : ℕ) (target : List ℕ) → IsTrue (type_le (listed f k (length target)) target) → run f k (length target) ≤ sum target
 run-at_most f k [] h = omega arith
 run-at_most f k (x ∷ target) h =
@@ -50,19 +41,6 @@ pub degree-at_most : (target : List ℕ) (m : Tree) → IsAtMost target m → de
 unfolding type_of
 degree-at_most target m h = omega (arith, degree-counts (length target) m h.below, run-at_most (λ g. count g m) 0 target h.counts)
 
--- a monomial stands among terms that are at most the target, or has the coefficient 0
-pub at_most_or_zero : (target : List ℕ) (f : Poly) (m : Tree) → Each (λ t. IsAtMost target t.1) f → IsAtMost target m ⊎ (coefficient same_tree f m ≡ 0)
-at_most_or_zero target [] m h = inr refl
-at_most_or_zero target (t ∷ f) m h = elim (cases_Bool (same_tree t.1 m)) [
-  | inl e ↦ inl (subst (IsAtMost target) (tree_tells.sound t.1 m e) h.0)
-  | inr e ↦ elim (at_most_or_zero target f m h.1) [ inl a ↦ inl a | inr z ↦ inr (rw e (omega (arith, z))) ]
-]
-
 -- a polynomial whose terms are at most the target is within it
 pub IsWithin-terms : (p : ℕ) (target : List ℕ) (g : Poly) → 0 < p → Each (λ t. IsAtMost target t.1) g → IsWithin p target g
-IsWithin-terms p target g pos h m ne = elim (at_most_or_zero target g m h) [
-  | inl a ↦ a
-  | inr z ↦ absurd (ne (ap (λ n. n % p) z ∙ mod-eq_of_lt pos))
-]
-
--- ---- the equivalence
+IsWithin-terms p target g pos h m ne = of_terms (IsAtMost target) p g pos h m ne

@@ -65,7 +65,7 @@ times_item c it = record { coef = c * it.coef; form = it.form; args = it.args; c
 beside_item : Side × Tree → Item → Item
 beside_item s it = record { coef = it.coef; form = it.form; args = it.args; context = it.context ++ s ∷ [] }
 
-within-append : (c : List (Side × Tree)) (s : Side × Tree) (x : Tree) → within (c ++ s ∷ []) x ≡ beside s (within c x)
+pub within-append : (c : List (Side × Tree)) (s : Side × Tree) (x : Tree) → within (c ++ s ∷ []) x ≡ beside s (within c x)
 within-append [] s x = refl
 within-append (t ∷ c) s x = within-append c s (beside t x)
 

@@ -1,11 +1,10 @@
 -- Generators replaced by polynomials.
-use Rattle.std.proofs.Common.{◌≡◌, ℕ, zero, suc, ◌+◌, ◌*◌, ◌<◌, ◌≤◌, Bool, true, false, List, [], ◌∷◌, length, max, get_or, sym, refl, ap, subst, ◌∙◌, arith, All}
-use Rattle.std.specs.Prelude.{◌&&◌}
+use Rattle.std.proofs.Common.{◌≡◌, ℕ, zero, suc, ◌+◌, ◌*◌, ◌<◌, ◌≤◌, true, List, [], ◌∷◌, length, max, get_or, sym, refl, ap, subst, ◌∙◌, arith, All}
 use Rattle.std.specs.List.{flat_map}
-use Rattle.std.proofs.lemmas.Bool.{false≢true}
 use Rattle.std.proofs.lemmas.List.Elements.{All-nil, All-head, All-tail, All-append}
 use Rattle.std.proofs.Math.Nat.{mul-le-mul_right}
 use Rattle.gf_sums.proofs.Alike.{Alike, joined, scale-alike, flat-alike, multiply-alike}
+use Rattle.alb_mono.proofs.Both.{and_left, and_right}
 use Rattle.alb_mono.specs.Tree.{Tree, leaf, node, degree, are_below}
 use Rattle.alb_poly.specs.Algebra.{evaluate, evaluate_poly}
 use Rattle.alb_poly.specs.Normal.{normal}
@@ -64,18 +63,10 @@ small_part m n us h a k d l = omega (arith, a k d l, mul-le-mul_right (greatest_
 -- ---- letters
 
 pub left_below : (n : ℕ) (l r : Tree) → are_below n (node l r) ≡ true → are_below n l ≡ true
-left_below n l r h = first (are_below n l) (are_below n r) h
-  where
-    first : (a b : Bool) → (a && b) ≡ true → a ≡ true
-    first true b h = refl
-    first false b h = absurd (false≢true h)
+left_below n l r h = and_left (are_below n l) (are_below n r) h
 
 pub right_below : (n : ℕ) (l r : Tree) → are_below n (node l r) ≡ true → are_below n r ≡ true
-right_below n l r h = second (are_below n l) (are_below n r) h
-  where
-    second : (a b : Bool) → (a && b) ≡ true → b ≡ true
-    second true b h = h
-    second false b h = absurd (false≢true h)
+right_below n l r h = and_right (are_below n l) (are_below n r) h
 
 -- ---- values
 

@@ -1,8 +1,8 @@
 -- What is known of one term of a list.
-use Rattle.std.proofs.Common.{◌≡◌, ℕ, zero, suc, ◌+◌, ◌<◌, ◌≤◌, Bool, true, List, [], ◌∷◌, ◌++◌, take, length, max, get_or, sym, refl, ap, subst, ◌∙◌, arith, All}
-use Rattle.std.specs.Prelude.{◌&&◌}
+use Rattle.std.proofs.Common.{◌≡◌, ℕ, zero, suc, ◌+◌, ◌<◌, ◌≤◌, true, List, [], ◌∷◌, ◌++◌, take, length, max, get_or, sym, refl, ap, subst, ◌∙◌, arith, All}
 use Rattle.std.proofs.lemmas.List.{map-append, take_more}
 use Rattle.std.proofs.lemmas.List.Elements.{All-map, All-nil, All-cons, All-head, All-tail}
+use Rattle.alb_mono.proofs.Both.{both_true}
 use Rattle.alb_mono.specs.Mono.{tree}
 use Rattle.alb_mono.specs.Tree.{Tree, degree, are_below}
 use Rattle.alb_mono.specs.declared.side.Side.{Side}
@@ -55,9 +55,6 @@ degree_more ts k t h e =
 pub degree_beside : (s : Side) (m n : Tree) → degree (beside (s, m) n) ≡ degree n + degree m
 degree_beside Left m n = omega arith
 degree_beside Right m n = refl
-
-both_true : (a b : Bool) → a ≡ true → b ≡ true → (a && b) ≡ true
-both_true a b h k = rw (h, k) refl
 
 pub below_beside : (s : Side) (m n : Tree) → are_below 26 m ≡ true → are_below 26 n ≡ true → are_below 26 (beside (s, m) n) ≡ true
 below_beside Left m n h k = both_true (are_below 26 m) (are_below 26 n) h k

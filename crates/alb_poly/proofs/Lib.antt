@@ -3,6 +3,11 @@ pub mod Orders
 pub mod Multilinear
 pub mod Parts
 pub mod Extra
+pub mod Types
+pub mod Kept
+pub mod Whole
+pub mod Evaluate
+pub mod Ideals
 pub mod NormalLemmas
 pub mod Products
 pub mod AtMost

@@ -1,7 +1,7 @@
 -- Linearizations are multilinear, and their instances are those of the identity.
 use Rattle.std.proofs.Common.{◌≡◌, ℕ, zero, suc, ◌+◌, ◌<◌, ◌≤◌, true, List, [], ◌∷◌, ◌++◌, map, take, drop, length, get_or, sum, sym, refl, ap, ◌∙◌, subst, arith, ltb}
 use Rattle.std.specs.Bool.{if◌then◌else◌}
-use Rattle.std.specs.List.{flat_map}
+use Rattle.std.specs.List.{All, flat_map}
 use Rattle.std.proofs.lemmas.List.{get_or-map, take-append-drop, length-drop}
 use Rattle.std.proofs.Common.{drop-cons}
 use Rattle.std.proofs.lemmas.List.{take_all}
@@ -18,14 +18,19 @@ use Rattle.alb_poly.specs.Instance.{fill, insertions, orders, arrangements, numb
 use Rattle.alb_poly.specs.Identity.{HasType, IsHomogeneous}
 use Rattle.alb_poly.specs.Instance.{IsMultilinear, IsMultilinearForm}
 use Rattle.alb_mono.specs.Listing.{Each}
+use Rattle.alb_mono.proofs.ListingLemmas.{each-at}
+pub use Rattle.alb_mono.proofs.ListingLemmas.{each-append, each-weaker as each-from}
 use Rattle.alb_poly.proofs.Orders.{map-flat, map-map, arrangements-map, run-plus, runs, leaves-numbered}
 use Rattle.alb_poly.specs.Instance.{leaves, run}
 
 -- ---- what holds of each element
 
-pub each-append : {X : Type 0} (P : X → Type 0) (xs ys : List X) → Each P xs → Each P ys → Each P (xs ++ ys)
-each-append P [] ys h k = k
-each-append P (x ∷ xs) ys h k = (h.0, each-append P xs ys h.1 k)
+pub each_from_all : {X : Type 0} (P : X → Type 0) (xs : List X) → All P xs → Each P xs
+each_from_all P [] h = tt
+each_from_all P (x ∷ xs) h = (h 0 x (omega arith), each_from_all P xs (λ k d l. h (suc k) d (omega arith)))
+
+pub all_from_each : {X : Type 0} (P : X → Type 0) (xs : List X) → Each P xs → All P xs
+all_from_each P xs h k d l = each-at P xs k d h l
 
 pub each-map : {X Y : Type 0} (P : X → Type 0) (Q : Y → Type 0) (h : X → Y) (xs : List X) → ((x : X) → P x → Q (h x)) → Each P xs → Each Q (map h xs)
 each-map P Q h [] k a = tt
@@ -54,10 +59,6 @@ insertions-order x (y ∷ ys) = (
   λ w. refl,
   each-map (IsOrder (x ∷ ys)) (IsOrder (x ∷ y ∷ ys)) (λ zs. y ∷ zs) (insertions x ys) (λ zs k w. omega (arith, k w)) (insertions-order x ys),
 )
-
-pub each-from : {X : Type 0} (P Q : X → Type 0) (xs : List X) → ((x : X) → P x → Q x) → Each P xs → Each Q xs
-each-from P Q [] k a = tt
-each-from P Q (x ∷ xs) k a = (k x a.0, each-from P Q xs k a.1)
 
 pub orders-order : {X : Type 0} (xs : List X) → Each (IsOrder xs) (orders xs)
 orders-order [] = (λ w. refl, tt)

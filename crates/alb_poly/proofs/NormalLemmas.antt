@@ -19,6 +19,7 @@ use Rattle.alb_mono.proofs.Order.{cmp_monos_total, trees_equal}
 use Rattle.alb_poly.specs.Poly.{Poly, IsSamePoly, AreResidues, greatest_degree, IsDescending}
 use Rattle.alb_poly.specs.Normal.{before, placed, put, normal}
 use Rattle.alb_poly.proofs.Consequence.{tree_tells, alike_poly, poly_alike}
+use Rattle.alb_poly.proofs.Multilinear.{each_from_all, all_from_each}
 
 -- ---- the order
 
@@ -75,16 +76,8 @@ unfolding normal
 normal-each P p [] h = tt
 normal-each P p (t ∷ f) h = put-each P p (t.0 % p) t.1 (normal p f) h.0 (normal-each P p f h.1)
 
-each_all : (P : Tree → Type 0) (f : Poly) → All (λ t. P t.1) f → Each (λ t. P t.1) f
-each_all P [] h = tt
-each_all P (t ∷ f) h = (All-head (λ t. P t.1) t f h, each_all P f (All-tail (λ t. P t.1) t f h))
-
-all_each : (P : Tree → Type 0) (f : Poly) → Each (λ t. P t.1) f → All (λ t. P t.1) f
-all_each P [] h = All-nil _
-all_each P (t ∷ f) h = All-cons (λ t. P t.1) t f h.0 (all_each P f h.1)
-
 pub normal-all : (P : Tree → Type 0) (p : ℕ) (f : Poly) → All (λ t. P t.1) f → All (λ t. P t.1) (normal p f)
-normal-all P p f h = all_each P (normal p f) (normal-each P p f (each_all P f h))
+normal-all P p f h = all_from_each (λ t. P t.1) (normal p f) (normal-each P p f (each_from_all (λ t. P t.1) f h))
 
 -- ---- the normal form is canonical
 

@@ -1,11 +1,10 @@
 -- The homogeneous parts of a descending list are its runs of one type.
-use Rattle.std.proofs.Common.{◌≡◌, ◌≢◌, ℕ, zero, suc, ◌+◌, ◌-◌, ◌<◌, ◌≤◌, Bool, true, false, List, [], ◌∷◌, ◌++◌, take, drop, length, get_or, sum, sym, refl, ap, subst, ◌∙◌, arith, inl, inr, ◌⊎◌, All, ◌&&◌, append-nil}
-use Rattle.std.specs.Prelude.{◌==◌}
+use Rattle.std.proofs.Common.{◌≡◌, ◌≢◌, ℕ, zero, suc, ◌+◌, ◌-◌, ◌<◌, ◌≤◌, true, List, [], ◌∷◌, ◌++◌, take, drop, length, get_or, sum, sym, refl, ap, subst, ◌∙◌, arith, inl, inr, ◌⊎◌, All, append-nil}
 use Rattle.std.specs.Ordering.{nat_cmp, ordering_then}
 use Rattle.std.specs.Cmp.Lexicographic.{slice_cmp}
 use Rattle.std.specs.declared.cmp.Ordering.{Ordering}
 use Rattle.std.specs.declared.cmp.Ordering.TheVariants.{Less, Equal, Greater}
-use Rattle.std.proofs.lemmas.Bool.{cases_Bool, eqb-true, eq-eqb, false≢true}
+use Rattle.std.proofs.lemmas.Bool.{cases_Bool, false≢true}
 use Rattle.std.proofs.lemmas.Bool.Decides.{nat_tests}
 use Rattle.std.proofs.lemmas.Cmp.{tied_itself, nat_cmp_total, lists_total}
 use Rattle.std.proofs.Common.{drop_of_length-le}
@@ -16,16 +15,17 @@ use Rattle.std.proofs.lemmas.List.Sums.{sum_by-cons}
 use Rattle.gf_sums.specs.Sums.{AllBefore}
 use Rattle.alb_mono.specs.Listing.{Each, IsListing}
 use Rattle.alb_mono.specs.Mono.{tree}
-use Rattle.alb_mono.specs.Tree.{Tree, leaf, node, count, listed, type_of, cmp_types, cmp_trees, cmp_monos, are_below, AreBelow}
+use Rattle.alb_mono.specs.Tree.{Tree, count, listed, type_of, cmp_types, cmp_trees, cmp_monos, are_below, AreBelow}
 use Rattle.alb_mono.proofs.Leaves.{length-type_of, below_from_test}
 use Rattle.alb_mono.proofs.ListingLemmas.{each-weaker, each-append, in-left, in-right, ascends-append}
 use Rattle.alb_mono.proofs.Order.{cmp_types_total}
-use Rattle.alb_poly.specs.Poly.{Poly, IsDescending, list_eq, part}
+use Rattle.alb_poly.specs.Poly.{Poly, IsDescending, list_eq, has_type, part}
 use Rattle.alb_poly.specs.Components.{IsComponent, by_type}
 use Rattle.alb_poly.specs.Runs.{IsRun}
 use Rattle.alb_poly.specs.Terms.{term, terms}
 use Rattle.alb_poly.specs.declared.term.Term.{Term}
 use Rattle.alb_poly.proofs.Falling.{types_equal}
+use Rattle.alb_poly.proofs.Types.{list_eq-itself, list_eq-sound, none_past, has_type-of, has_type-is, has_type-not}
 
 -- ---- types over fewer generators
 
@@ -35,10 +35,6 @@ listed-append f k (suc n) j =
     let a : suc n + j ≡ suc (n + j) = omega arith in
     let b : k + suc n ≡ suc k + n = omega arith in
     rw (a, b) (ap (λ xs. f k ∷ xs) (listed-append f (suc k) n j))
-
-none_past : (g n : ℕ) (m : Tree) → AreBelow n m → n ≤ g → count g m ≡ 0
-none_past g n (leaf k) h l = let e : (k == g) ≡ false = grind (arith, nat_tests) in rw e refl
-none_past g n (node l r) h k = omega (arith, none_past g n l h.0 k, none_past g n r h.1 k)
 
 zeros_past : (m : Tree) (n k j : ℕ) → AreBelow n m → n ≤ k → listed (λ g. count g m) k j ≡ listed (λ _. 0) k j
 zeros_past m n k zero h l = refl
@@ -90,57 +86,33 @@ earlier_type n x y h k l e ne = elim (first_decides (cmp_types (type_of 26 x) (t
 
 -- ---- parts
 
-list_eq-same : (xs : List ℕ) → list_eq xs xs ≡ true
-list_eq-same [] = refl
-list_eq-same (x ∷ xs) = let e : (x == x) ≡ true = eq-eqb x x refl in rw (e, list_eq-same xs) refl
-
-list_eq-tells : (xs ys : List ℕ) → list_eq xs ys ≡ true → xs ≡ ys
-list_eq-tells [] [] h = refl
-list_eq-tells [] (y ∷ ys) h = absurd (false≢true h)
-list_eq-tells (x ∷ xs) [] h = absurd (false≢true h)
-list_eq-tells (x ∷ xs) (y ∷ ys) h =
-    let b = both (x == y) (list_eq xs ys) h in
-    let e : x ≡ y = eqb-true x y b.0 in
-    rw (e, list_eq-tells xs ys b.1) refl
-  where
-    both : (a b : Bool) → (a && b) ≡ true → (a ≡ true) × (b ≡ true)
-    both true b h = (refl, h)
-    both false b h = absurd (false≢true h)
-
-list_eq-differs : (xs ys : List ℕ) → xs ≢ ys → list_eq xs ys ≡ false
-list_eq-differs xs ys h = elim (cases_Bool (list_eq xs ys)) [ inl e ↦ absurd (h (list_eq-tells xs ys e)) | inr e ↦ e ]
-
 module _ (n : ℕ) where
   -- all terms have the type `e`
   abbrev pub HaveType : List ℕ → Poly → Type 0
-  HaveType e f = Each (λ t. type_of n t.1 ≡ e) f
+  HaveType e f = Each (λ t. has_type e t.1 ≡ true) f
 
   -- all terms have types before `e`
   abbrev pub AreEarlier : List ℕ → Poly → Type 0
   AreEarlier e f = Each (λ t. cmp_types (type_of n t.1) e ≡ Less) f
 
-  part-whole : (e : List ℕ) (f : Poly) → length e ≡ n → HaveType e f → part e f ≡ f
-  part-whole e [] h a = refl
-  part-whole e (t ∷ f) h a =
-      let q : list_eq (type_of (length e) t.1) e ≡ true = ap (λ k. list_eq (type_of k t.1) e) h ∙ ap (λ x. list_eq x e) a.0 ∙ list_eq-same e in
-      rw q (ap (λ g. t ∷ g) (part-whole e f h a.1))
+  part-whole : (e : List ℕ) (f : Poly) → HaveType e f → part e f ≡ f
+  part-whole e [] a = refl
+  part-whole e (t ∷ f) a = rw a.0 (ap (λ g. t ∷ g) (part-whole e f a.1))
 
   part-none : (e : List ℕ) (f : Poly) → length e ≡ n → Each (λ t. type_of n t.1 ≢ e) f → part e f ≡ []
   part-none e [] h a = refl
-  part-none e (t ∷ f) h a =
-      let q : list_eq (type_of (length e) t.1) e ≡ false = ap (λ k. list_eq (type_of k t.1) e) h ∙ list_eq-differs (type_of n t.1) e a.0 in
-      rw q (part-none e f h a.1)
+  part-none e (t ∷ f) h a = rw (has_type-not n e t.1 h a.0) (part-none e f h a.1)
 
   -- a type whose part is not zero is that of a term
   part-some : (P : List ℕ → Type 0) (e : List ℕ) (f : Poly) → length e ≡ n → part e f ≢ [] → Each (λ t. P (type_of n t.1)) f → P e
   part-some P e [] h k a = absurd (k refl)
-  part-some P e (t ∷ f) h k a = elim (cases_Bool (list_eq (type_of (length e) t.1) e)) [
-    | inl q ↦ subst P (ap (λ j. type_of j t.1) (sym h) ∙ list_eq-tells (type_of (length e) t.1) e q) a.0
+  part-some P e (t ∷ f) h k a = elim (cases_Bool (has_type e t.1)) [
+    | inl q ↦ subst P (has_type-is n e t.1 h q) a.0
     | inr q ↦ part-some P e f h (rw q at k) a.1
   ]
 
   part-append : (e : List ℕ) (f g : Poly) → part e (f ++ g) ≡ part e f ++ part e g
-  part-append e f g = filter-append (λ t. list_eq (type_of (length e) t.1) e) f g
+  part-append e f g = filter-append (λ t. has_type e t.1) f g
 
   less_differs : (d e : List ℕ) → cmp_types d e ≡ Less → d ≢ e
   less_differs d e h q = let k : cmp_types d e ≡ Equal = ap (λ x. cmp_types x e) q ∙ tied_itself cmp_types_total e in absurd (cc)
@@ -148,14 +120,14 @@ module _ (n : ℕ) where
   module _ (e : List ℕ) (run rest : Poly) (long : length e ≡ n) (have : HaveType e run) (earlier : AreEarlier e rest) where
     part-run : part e (run ++ rest) ≡ run
     part-run =
-        part-append e run rest ∙ ap (λ g. g ++ part e rest) (part-whole e run long have)
+        part-append e run rest ∙ ap (λ g. g ++ part e rest) (part-whole e run have)
         ∙ ap (λ g. run ++ g) (part-none e rest long (each-weaker (λ t. cmp_types (type_of n t.1) e ≡ Less) _ rest (λ t h. less_differs (type_of n t.1) e h) earlier))
         ∙ append-nil run
 
     part-other : (d : List ℕ) → length d ≡ n → d ≢ e → part d (run ++ rest) ≡ part d rest
     part-other d h ne =
         part-append d run rest
-        ∙ ap (λ g. g ++ part d rest) (part-none d run h (each-weaker (λ t. type_of n t.1 ≡ e) _ run (λ t q z. ne (sym z ∙ q)) have))
+        ∙ ap (λ g. g ++ part d rest) (part-none d run h (each-weaker (λ t. has_type e t.1 ≡ true) _ run (λ t q z. ne (sym z ∙ has_type-is n e t.1 long q)) have))
 
     earlier_component : (c : List ℕ × Poly) → IsComponent n rest c → cmp_types c.0 e ≡ Less
     earlier_component c h = part-some (λ d. cmp_types d e ≡ Less) c.0 rest h.long (λ z. h.not_zero (h.same ∙ z)) earlier
@@ -169,8 +141,8 @@ module _ (n : ℕ) where
 
     types_differ : (d : List ℕ) → (d ≡ e) ⊎ (d ≢ e)
     types_differ d = elim (cases_Bool (list_eq d e)) [
-      | inl q ↦ inl (list_eq-tells d e q)
-      | inr q ↦ inr (λ z. false≢true (sym q ∙ ap (λ x. list_eq x e) z ∙ list_eq-same e))
+      | inl q ↦ inl (list_eq-sound d e q)
+      | inr q ↦ inr (λ z. false≢true (sym q ∙ ap (λ x. list_eq x e) z ∙ list_eq-itself e))
     ]
 
     -- one more run of a type that comes after all others
@@ -207,17 +179,19 @@ falls_far (t ∷ ts) f zero (suc j) d h l = before_at (tree t.mono) ts f.1 j d (
     before_at m (t ∷ ts) f (suc k) d h = before_at m ts f.1 k d (omega arith)
 falls_far (t ∷ ts) f (suc i) (suc j) d h l = falls_far ts f.2 i j d (omega arith) (omega arith)
 
-have_take : (n : ℕ) (e : List ℕ) (ts : List Term) (len : ℕ) → ((k : ℕ) (d : Term) → k < len → type_of n (tree (get_or ts k d).mono) ≡ e) → HaveType n e (terms (take len ts))
+have_take : (n : ℕ) (e : List ℕ) (ts : List Term) (len : ℕ) → ((k : ℕ) (d : Term) → k < len → k < length ts → has_type e (tree (get_or ts k d).mono) ≡ true) →
+    HaveType n e (terms (take len ts))
 have_take n e ts zero h = tt
 have_take n e [] (suc len) h = tt
-have_take n e (t ∷ ts) (suc len) h = (h 0 t (omega arith), have_take n e ts len (λ k d l. h (suc k) d (omega arith)))
+have_take n e (t ∷ ts) (suc len) h = (h 0 t (omega arith) (omega arith), have_take n e ts len (λ k d l m. h (suc k) d (omega arith) (omega arith)))
 
-have_slice : (n : ℕ) (e : List ℕ) (ts : List Term) (start len : ℕ) → ((k : ℕ) (d : Term) → start ≤ k → k < start + len → type_of n (tree (get_or ts k d).mono) ≡ e) →
+have_slice : (n : ℕ) (e : List ℕ) (ts : List Term) (start len : ℕ) →
+    ((k : ℕ) (d : Term) → start ≤ k → k < start + len → k < length ts → has_type e (tree (get_or ts k d).mono) ≡ true) →
     HaveType n e (terms (take len (drop start ts)))
-have_slice n e ts zero len h = have_take n e ts len (λ k d l. h k d (omega arith) (omega arith))
+have_slice n e ts zero len h = have_take n e ts len (λ k d l m. h k d (omega arith) (omega arith) m)
 have_slice n e [] (suc start) zero h = tt
 have_slice n e [] (suc start) (suc len) h = tt
-have_slice n e (t ∷ ts) (suc start) len h = have_slice n e ts start len (λ k d a b. h (suc k) d (omega arith) (omega arith))
+have_slice n e (t ∷ ts) (suc start) len h = have_slice n e ts start len (λ k d a b m. h (suc k) d (omega arith) (omega arith) (omega arith))
 
 before-take : (m : Tree) (ts : List Term) (len : ℕ) → AllBefore cmp_monos m (terms ts) → AllBefore cmp_monos m (terms (take len ts))
 before-take m ts zero h = tt
@@ -288,17 +262,19 @@ module _ (n : ℕ) (ts : List Term) (few : n ≤ 26) (letters : All (λ t. are_b
       let split : terms (drop start ts) ≡ run ++ rest =
       ap terms (sym (take-append-drop (end - start) (drop start ts)) ∙ ap (λ x. take (end - start) (drop start ts) ++ x) (drop-drop (end - start) start ts ∙ ap (λ k. drop k ts) q))
       ∙ map-append term (take (end - start) (drop start ts)) (drop end ts) in
-      let have : HaveType n e run = have_slice n e ts start (end - start) (λ k d a b. r.run k d a (omega arith)) in
+      let long : length e ≡ n = ap length h ∙ length-type_of n (tree t.mono) in
+      let have : HaveType n e run = have_slice n e ts start (end - start)
+      (λ k d a b m. has_type-of n e (tree (get_or ts k d).mono) long (letters_at n ts letters k d m) (r.run k d a (omega arith))) in
       let last : e ≡ type_of n (tree (get_or ts (end - 1) t).mono) = h ∙ ap (λ u. type_of n (tree u.mono)) i in
       let earlier : AreEarlier n e rest = subst (λ x. AreEarlier n x rest) (sym last) (c.cut t pos) in
       record {
         within = omega arith;
         listing = subst (λ f. IsListing by_type (IsComponent n f) (out ++ (e, run) ∷ [])) (sym split)
-            (listing-run n e run rest (ap length h ∙ length-type_of n (tree t.mono)) have earlier out (slice_some ts start (end - start) (omega arith) (omega arith)) c.listing);
+            (listing-run n e run rest long have earlier out (slice_some ts start (end - start) (omega arith) (omega arith)) c.listing);
         cut = λ d l. subst (λ f. AreEarlier n (type_of n (tree (get_or ts (start - 1) d).mono)) f) (sym split)
             (let less : cmp_types e (type_of n (tree (get_or ts (start - 1) d).mono)) ≡ Less = before_cut end start e d (omega arith) l s within (λ z. r.cut d l (sym z)) (sym (r.run (end - 1) d (omega arith) (omega arith))) in
             each-append (λ t. cmp_types (type_of n t.1) (type_of n (tree (get_or ts (start - 1) d).mono)) ≡ Less) run rest
-            (each-weaker (λ t. type_of n t.1 ≡ e) _ run (λ t z. ap (λ x. cmp_types x (type_of n (tree (get_or ts (start - 1) d).mono))) z ∙ less) have)
+            (each-weaker (λ t. has_type e t.1 ≡ true) _ run (λ t z. ap (λ x. cmp_types x (type_of n (tree (get_or ts (start - 1) d).mono))) (has_type-is n e t.1 long z) ∙ less) have)
             (each-weaker (λ t. cmp_types (type_of n t.1) e ≡ Less) _ rest (λ t z. cmp_types_total.trans (type_of n t.1) e (type_of n (tree (get_or ts (start - 1) d).mono)) z less) earlier));
       }
     where

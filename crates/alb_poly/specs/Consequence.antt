@@ -8,6 +8,7 @@ use Rattle.alb_mono.specs.declared.side.Side.{Side}
 use Rattle.alb_poly.specs.Poly.{Poly, IsSamePoly}
 use Rattle.alb_poly.specs.Context.{within}
 use Rattle.alb_poly.specs.Instance.{Form, instance, IsMultilinearForm}
+use Rattle.alb_poly.specs.Identity.{IsHomogeneous}
 
 -- a multiple of an instance in a context
 pub record Item : Type 0 where
@@ -36,6 +37,13 @@ AreItems fs (it ∷ its) = IsItem fs it × AreItems fs its
 pub record IsConsequence (p : ℕ) (fs : List Form) (g : Poly) : Type 0 where
   pub items : List Item
   pub are : AreItems fs items
+  pub same : IsSamePoly p g (flat_map (item_value fs) items)
+
+-- `g` equals the sum of items all of whose monomials have the type `e`
+pub record IsConsequenceOfType (p : ℕ) (fs : List Form) (e : List ℕ) (g : Poly) : Type 0 where
+  pub items : List Item
+  pub are : AreItems fs items
+  pub types : Each (λ it. IsHomogeneous e (item_value fs it)) items
   pub same : IsSamePoly p g (flat_map (item_value fs) items)
 
 -- every form is multilinear

@@ -8,6 +8,7 @@ pub mod Identity
 pub mod Consequence
 pub mod Algebra
 pub mod Textbook
+pub mod Ideal
 pub mod Laws
 pub mod Components
 pub mod Runs

@@ -2,7 +2,7 @@
 use Rattle.std.specs.Prelude.{ℕ, ◌<◌, length, ◌==◌, ◌&&◌, max, Bool, true, false, List, [], ◌∷◌, All}
 use Rattle.std.specs.List.{filter}
 use Rattle.gf_sums.specs.Sums.{Comb, AreSame, multiply, AllBefore}
-use Rattle.alb_mono.specs.Tree.{Tree, leaf, node, degree, type_of, cmp_monos, same_tree}
+use Rattle.alb_mono.specs.Tree.{Tree, leaf, node, degree, type_of, are_below, cmp_monos, same_tree}
 
 -- a list of (coefficient, monomial)
 abbrev pub Poly : Type 0
@@ -41,6 +41,10 @@ list_eq [] (y ∷ ys) = false
 list_eq (x ∷ xs) [] = false
 list_eq (x ∷ xs) (y ∷ ys) = x == y && list_eq xs ys
 
+-- whether a monomial has the type `e`: no generators past those of `e`, and each as often as `e` says
+abbrev pub has_type : List ℕ → Tree → Bool
+has_type e m = are_below (length e) m && list_eq (type_of (length e) m) e
+
 -- the homogeneous part of the type `e`: the terms whose monomials have it
 abbrev pub part : List ℕ → Poly → Poly
-part e f = filter (λ t. list_eq (type_of (length e) t.1) e) f
+part e f = filter (λ t. has_type e t.1) f

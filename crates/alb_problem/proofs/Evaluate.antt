@@ -1,18 +1,12 @@
 -- Values in an algebra with a basis: `prod` is the product of two basis elements.
-use Rattle.std.proofs.Common.{◌≡◌, ℕ, ◌*◌, true, false, sym, ◌∙◌, arith, inl, inr, eqb}
-use Rattle.std.proofs.Math.Nat.{mul_left_comm}
+use Rattle.std.proofs.Common.{◌≡◌, ℕ, true, false, sym, ◌∙◌, arith, inl, inr, eqb}
 use Rattle.std.proofs.lemmas.Bool.{cases_eq}
 use Rattle.std.proofs.lemmas.Bool.Decides.{nat_tests}
 use Rattle.alb_mono.specs.Tree.{Tree, leaf, node, count}
 use Rattle.gf_sums.specs.Sums.{Comb, weigh}
 use Rattle.alb_poly.specs.Algebra.{evaluate, unit, put}
-use Rattle.gf_sums.proofs.Totals.{total-equal, total-times, total-swap, weigh-equal, weigh-multiply}
-
-pub weigh-swap : {I J : Type 0} (w : I → J → ℕ) (f : Comb I) (g : Comb J) → weigh (λ i. weigh (w i) g) f ≡ weigh (λ j. weigh (λ i. w i j) f) g
-weigh-swap w f g =
-    total-equal _ _ f (λ s. sym (total-times s.0 _ g))
-    ∙ total-swap (λ s t. s.0 * (t.0 * w s.1 t.1)) f g
-    ∙ total-equal _ _ g (λ t. total-equal _ _ f (λ s. mul_left_comm s.0 t.0 (w s.1 t.1)) ∙ total-times t.0 _ f)
+use Rattle.gf_sums.proofs.Totals.{weigh-equal, weigh-multiply}
+pub use Rattle.gf_sums.proofs.Totals.{weigh-swap}
 
 module _ {I : Type 0} (prod : I → I → Comb I) (v : ℕ → Comb I) (k : ℕ) where
   -- a vector that does not occur does not matter

@@ -7,20 +7,18 @@ use Rattle.std.proofs.Common.{inl, inr}
 use Rattle.std.proofs.Common.{eqb}
 use Rattle.alb_mono.specs.Tree.{Tree, leaf, node, count}
 use Rattle.gf_sums.specs.Sums.{Comb, weigh}
-use Rattle.gf_sums.proofs.Totals.{total-equal, weigh-scale, weigh-equal}
+use Rattle.gf_sums.proofs.Totals.{weigh-equal}
 use Rattle.gf_field.specs.Modular.{IsSameMod}
 use Rattle.gf_field.proofs.Mod.{same, ◌⊙◌, plus, times}
-use Rattle.gf_sums.proofs.Alike.{Alike, weigh-flat}
+use Rattle.gf_sums.proofs.Alike.{Alike}
 use Rattle.alb_poly.specs.Instance.{Form}
 use Rattle.alb_poly.specs.Instance.{run}
 use Rattle.alb_poly.specs.Instance.{IsMultilinear, IsMultilinearForm}
 use Rattle.alb_poly.proofs.Parts.{count-leaves, weigh-each}
-use Rattle.alb_problem.proofs.Evaluate.{weigh-swap, evaluate-linear}
+pub use Rattle.alb_poly.proofs.Evaluate.{weigh-evaluate_poly}
+use Rattle.gf_sums.proofs.Totals.{weigh-swap}
+use Rattle.alb_problem.proofs.Evaluate.{evaluate-linear}
 use Rattle.alb_poly.specs.Algebra.{evaluate, evaluate_poly, unit, put}
-
-pub weigh-evaluate_poly : {I : Type 0} (prod : I → I → Comb I) (v : ℕ → Comb I) (w : I → ℕ) (f : Comb Tree) →
-    weigh w (evaluate_poly prod v f) ≡ weigh (λ m. weigh w (evaluate prod v m)) f
-weigh-evaluate_poly prod v w f = weigh-flat w _ f ∙ total-equal _ _ f (λ t. weigh-scale w t.0 (evaluate prod v t.1))
 
 -- each position below `n` occurs once
 run-none : (k i n : ℕ) → k < i → run (λ j. if j == k then 1 else 0) i n ≡ 0

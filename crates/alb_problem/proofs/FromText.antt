@@ -11,14 +11,16 @@ use Rattle.std.proofs.lemmas.Bool.{cases_lt}
 use Rattle.std.proofs.lemmas.Bool.Decides.{nat_tests}
 use Rattle.gf_field.specs.Primes.{IsPrime}
 use Rattle.alb_mono.specs.Tree.{Tree, leaf, node, degree, AreBelow}
-use Rattle.gf_sums.specs.Sums.{weigh, scale, reindex}
-use Rattle.gf_sums.proofs.Totals.{weigh-equal, weigh-scale, weigh-multiply}
+use Rattle.gf_sums.specs.Sums.{weigh, scale}
+use Rattle.gf_sums.proofs.Totals.{weigh-equal, weigh-multiply}
 use Rattle.gf_sums.proofs.Alike.{Alike, equal, turned, joined, weigh-reindex}
 use Rattle.alb_poly.specs.Poly.{Poly}
 use Rattle.alb_poly.specs.Context.{within}
 use Rattle.alb_poly.specs.Instance.{fill, Form, instance, linearization}
 use Rattle.alb_poly.specs.Consequence.{form_at, IsConsequence}
 use Rattle.alb_mono.specs.Listing.{Each}
+use Rattle.alb_linear.proofs.LinearLemmas.{degree-pos}
+use Rattle.alb_mono.proofs.ListingLemmas.{each-always}
 use Rattle.alb_poly.proofs.Multilinear.{each-flat, each-map, multilinear-below, linearization-multilinear}
 use Rattle.alb_poly.specs.Identity.{HasType, IsHomogeneous}
 use Rattle.alb_poly.specs.Instance.{IsMultilinear, IsMultilinearForm}
@@ -27,7 +29,8 @@ use Rattle.alb_poly.proofs.Parts.{each_at, weigh-keep, weigh-zero, weigh-each}
 use Rattle.alb_poly.proofs.Consequence.{alike_poly, consequence-zero, consequence-append, consequence-scale}
 use Rattle.alb_poly.proofs.Consequence.{consequence-instance}
 use Rattle.alb_poly.specs.Algebra.{evaluate, evaluate_poly, unit}
-use Rattle.alb_problem.proofs.FormValue.{weigh-evaluate_poly}
+use Rattle.alb_poly.proofs.Evaluate.{weigh-evaluate_poly}
+use Rattle.alb_poly.proofs.Ideals.{weigh-instance}
 use Rattle.alb_problem.proofs.OneVariable.{vectors}
 use Rattle.alb_poly.specs.Textbook.{free_product, value_at, Instance, instance_value, IsTextConsequence}
 use Rattle.alb_problem.proofs.AllVectors.{identity-closed, degree-type, small_or_large}
@@ -85,16 +88,8 @@ AreMultilinear-linearizations fs h = each-map (λ f. IsHomogeneous f.degrees f.t
 
 -- ---- values have at least the degree of their monomials
 
-degree-positive : (m : Tree) → 1 ≤ degree m
-degree-positive (leaf k) = omega arith
-degree-positive (node l r) = omega (arith, degree-positive l)
-
-pub each-all : {X : Type 0} (P : X → Type 0) (xs : List X) → ((x : X) → P x) → Each P xs
-each-all P [] h = tt
-each-all P (x ∷ xs) h = (h x, each-all P xs h)
-
 degree-value : (u : ℕ → Poly) (m : Tree) → Each (λ t. degree m ≤ degree t.1) (evaluate free_product u m)
-degree-value u (leaf k) = each-all _ (u k) (λ t. degree-positive t.1)
+degree-value u (leaf k) = each-always _ (u k) (λ t. degree-pos t.1)
 degree-value u (node l r) =
     let R = evaluate free_product u r in
     each-flat (λ s. degree l ≤ degree s.1) (λ t. degree (node l r) ≤ degree t.1)
@@ -102,12 +97,6 @@ degree-value u (node l r) =
     (λ s h. each-flat (λ t. degree r ≤ degree t.1) (λ t. degree (node l r) ≤ degree t.1) (λ t. scale (s.0 * t.0) (free_product s.1 t.1)) R
     (λ t k. (omega arith, tt)) (degree-value u r))
     (degree-value u l)
-
-pub weigh-instance : (fs : List Poly) (w : Tree → ℕ) (it : Instance) →
-    weigh w (instance_value fs it) ≡ it.coef * weigh (λ m. w (within it.context m)) (value_at (get_or fs it.identity []) it.args)
-weigh-instance fs w it =
-    weigh-scale w it.coef (reindex (within it.context) (value_at (get_or fs it.identity []) it.args))
-    ∙ ap (λ n. it.coef * n) (weigh-reindex w (within it.context) (value_at (get_or fs it.identity []) it.args))
 
 module _ (p : ℕ) (fs : List Identity) (prime : IsPrime p) (hom : AreHomogeneous fs) where
   -- where all degrees of the identity are below `p`
@@ -120,7 +109,7 @@ module _ (p : ℕ) (fs : List Identity) (prime : IsPrime p) (hom : AreHomogeneou
       (turned (value-units (linearization f.degrees f.terms) b (linearization-multilinear f.degrees f.terms (homogeneous_at fs k hom)) n))
       (subst (λ g. IsConsequence p (linearizations fs) (instance g b)) (form_at-linearizations fs k)
       (consequence-instance p (linearizations fs) k b (omega (arith, length-map fs (λ f. linearization f.degrees f.terms)))
-      (n ∙ sym (ap (λ g. g.degree) (form_at-linearizations fs k)))))) u (λ v. each-all (λ t. Unit {0}) (u v) (λ t. tt))
+      (n ∙ sym (ap (λ g. g.degree) (form_at-linearizations fs k)))))) u (λ v. each-always (λ t. Unit {0}) (u v) (λ t. tt))
 
   -- where some degree is not, the value has no monomials of degree below `p`
   low-high : (k : ℕ) (u : ℕ → Poly) (w : Tree → ℕ) → p ≤ sum (identity_at fs k).degrees → ((m : Tree) → p ≤ degree m → w m ≡ 0) →

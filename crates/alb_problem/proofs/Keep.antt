@@ -1,36 +1,27 @@
 -- The part of a polynomial that a test keeps; where the test says the same of all monomials of an item, that part of a
 -- consequence is a consequence.
-use Rattle.std.proofs.Common.{◌≡◌, ℕ, ◌+◌, ◌*◌, Bool, true, false, List, [], ◌∷◌, length, sym, refl, ap, ◌∙◌, subst, arith, inl, inr}
+use Rattle.std.proofs.Common.{◌≡◌, ℕ, ◌+◌, Bool, true, false, List, [], ◌∷◌, length, sym, refl, ap, ◌∙◌, subst, arith, inl, inr}
 use Rattle.std.specs.Bool.{if◌then◌else◌, IsTrue}
 use Rattle.std.specs.List.{filter}
 use Rattle.std.proofs.lemmas.Bool.{cases_Bool}
-use Rattle.std.proofs.lemmas.List.Elements.{filter-append}
 use Rattle.gf_field.specs.Modular.{IsSameMod}
 use Rattle.gf_field.proofs.Mod.{same, back, ◌⊙◌}
-use Rattle.alb_mono.specs.Tree.{Tree, node, same_tree}
 use Rattle.gf_sums.specs.Sums.{total, coefficient}
 use Rattle.gf_sums.proofs.Totals.{weigh-equal, coefficient-weigh}
-use Rattle.gf_sums.proofs.Alike.{Alike, equal, itself, joined, append-alike}
-use Rattle.alb_poly.specs.Poly.{Poly}
+use Rattle.gf_sums.proofs.Alike.{Alike}
+use Rattle.alb_mono.specs.Listing.{Each}
+use Rattle.alb_mono.specs.Tree.{Tree, node, same_tree}
 use Rattle.alb_mono.specs.declared.side.Side.{Side}
 use Rattle.alb_mono.specs.declared.side.Side.TheVariants.{Left, Right}
+use Rattle.alb_poly.specs.Poly.{Poly}
 use Rattle.alb_poly.specs.Context.{within}
-use Rattle.alb_poly.specs.Instance.{fill, Form}
-use Rattle.alb_poly.specs.Consequence.{Item, form_at, IsItem, item_value, AreItems, IsConsequence}
-use Rattle.alb_poly.specs.Instance.{leaves}
-use Rattle.alb_mono.specs.Listing.{Each}
-use Rattle.alb_poly.specs.Instance.{IsMultilinear}
-use Rattle.alb_poly.proofs.Multilinear.{leaves-multilinear}
-use Rattle.alb_poly.specs.Consequence.{AreMultilinear}
-use Rattle.alb_poly.proofs.Parts.{multilinear_at, weigh-keep, weigh-zero, weigh-each}
-use Rattle.alb_poly.proofs.Consequence.{tree_tells, value, weigh-item, alike_poly, poly_alike}
-
--- the terms whose monomials pass
-abbrev pub keep : (Tree → Bool) → Poly → Poly
-keep q f = filter (λ t. q t.1) f
-
-pub keep-alike : (q : Tree → Bool) {p : ℕ} (f g : Poly) → Alike p f g → Alike p (keep q f) (keep q g)
-keep-alike q f g h = record { at = λ w. same (weigh-keep w q f) ⊙ h.at _ ⊙ same (sym (weigh-keep w q g)) }
+use Rattle.alb_poly.specs.Instance.{fill, Form, leaves, IsMultilinear}
+use Rattle.alb_poly.specs.Consequence.{Item, form_at, IsItem, AreItems, IsConsequence, AreMultilinear}
+use Rattle.alb_poly.proofs.Multilinear.{each-from, leaves-multilinear}
+use Rattle.alb_poly.proofs.Parts.{multilinear_at, weigh-keep, weigh-zero}
+use Rattle.alb_poly.proofs.Consequence.{tree_tells, value, alike_poly, poly_alike}
+use Rattle.alb_poly.proofs.Kept as kept
+pub use Rattle.alb_poly.proofs.Kept.{keep, keep-alike}
 
 if-zero : (b : Bool) → ◌≡◌ {A = ℕ} (if b then 0 else 0) 0
 if-zero true = refl
@@ -74,31 +65,16 @@ abbrev pub TellsOfItems : (Tree → Bool) → (Item → Bool) → Type 0
 TellsOfItems q fits = (it : Item) (m : Tree) → IsMultilinear (length it.args) m → q (within it.context (fill it.args m)) ≡ fits it
 
 module _ (p : ℕ) (fs : List Form) (multi : AreMultilinear fs) (q : Tree → Bool) (fits : Item → Bool) (tells : TellsOfItems q fits) where
-  keep-item : (it : Item) → IsItem fs it → Alike p (keep q (item_value fs it)) (if fits it then item_value fs it else [])
-  keep-item it h = equal _ _ (λ w.
-      let at : Tree → Tree = λ m. within it.context (fill it.args m) in
-      weigh-keep w q (item_value fs it)
-      ∙ weigh-item fs (λ m. if q m then w m else 0) it
-      ∙ ap (λ n. it.coef * n) (weigh-each (IsMultilinear (form_at fs it.form).degree) _ (λ m. if fits it then w (at m) else 0) (form_at fs it.form).terms
-      (λ m k. ap (λ b. if b then w (at m) else 0) (tells it m (subst (λ j. IsMultilinear j m) (sym h.full) k))) (multilinear_at fs it.form multi))
-      ∙ (elim (cases_Bool (fits it)) [
-        | inl b ↦ rw b (sym (weigh-item fs w it))
-        | inr b ↦ rw b (ap (λ n. it.coef * n) (weigh-zero (form_at fs it.form).terms) ∙ omega arith)
-      ]))
+  each_term : (it : Item) → IsItem fs it → Each (λ t. q (within it.context (fill it.args t.1)) ≡ fits it) (form_at fs it.form).terms
+  each_term it h = each-from (λ t. IsMultilinear (form_at fs it.form).degree t.1) _ (form_at fs it.form).terms
+      (λ t k. tells it t.1 (subst (λ j. IsMultilinear j t.1) (sym h.full) k)) (multilinear_at fs it.form multi)
 
   -- the kept part of a sum of items is the sum of the items that fit
   pub keep-items : (its : List Item) → AreItems fs its → Alike p (keep q (value fs its)) (value fs (filter fits its))
-  keep-items [] a = itself []
-  keep-items (it ∷ its) a =
-      rw (filter-append (λ t. q t.1) (item_value fs it) (value fs its))
-      (joined (append-alike (keep-item it a.0) (keep-items its a.1)) (elim (cases_Bool (fits it)) [
-        | inl b ↦ rw b (itself _)
-        | inr b ↦ rw b (itself _)
-      ]))
+  keep-items = kept.keep-items p fs q fits each_term
 
   pub kept_are : (its : List Item) → AreItems fs its → AreItems fs (filter fits its)
-  kept_are [] a = tt
-  kept_are (it ∷ its) a = elim (cases_Bool (fits it)) [ inl b ↦ rw b (a.0, kept_are its a.1) | inr b ↦ rw b (kept_are its a.1) ]
+  kept_are = kept.kept-are p fs q fits each_term
 
   pub kept_fit : (its : List Item) → Each (λ it. IsTrue (fits it)) (filter fits its)
   kept_fit [] = tt
@@ -106,8 +82,5 @@ module _ (p : ℕ) (fs : List Form) (multi : AreMultilinear fs) (q : Tree → Bo
 
   -- the kept part of a consequence is a consequence
   pub consequence-keep : (g : Poly) → IsConsequence p fs g → IsConsequence p fs (keep q g)
-  consequence-keep g c = record {
-    items = filter fits c.items;
-    are = kept_are c.items c.are;
-    same = poly_alike (joined (keep-alike q g _ (alike_poly c.same)) (keep-items c.items c.are));
-  }
+  consequence-keep g c =
+      let k = kept.kept-fitting p fs q fits each_term g c in record { items = k.items; are = k.are; same = poly_alike k.alike }

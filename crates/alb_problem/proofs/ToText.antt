@@ -18,7 +18,8 @@ use Rattle.alb_problem.proofs.OneVariable.{vectors}
 use Rattle.alb_poly.specs.Textbook.{free_product, value_at, Instance, instance_value, IsTextConsequence}
 use Rattle.alb_problem.proofs.BlockPolarize.{signed_choices, linearization-polarized}
 use Rattle.alb_poly.specs.Identity.{Identity, AreHomogeneous, linearizations, polynomials}
-use Rattle.alb_problem.proofs.FromText.{identity_at, form_at-linearizations, get-polynomials, homogeneous_at, value-units, weigh-instance}
+use Rattle.alb_problem.proofs.FromText.{identity_at, form_at-linearizations, get-polynomials, homogeneous_at, value-units}
+use Rattle.alb_poly.proofs.Ideals.{weigh-instance}
 
 module _ (p : ℕ) (pos : 0 < p) (fs : List Identity) (hom : AreHomogeneous fs) where
   -- the item's monomials, some of which are summed for each variable, with signs

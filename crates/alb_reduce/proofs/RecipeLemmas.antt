@@ -7,11 +7,11 @@ use Rattle.std.proofs.lemmas.List.{length_push, get_or_push, get_or_append_left,
 use Rattle.std.proofs.Math.Nat.{mod-eq_of_lt}
 use Rattle.gf_field.specs.Modular.{IsSameMod}
 use Rattle.gf_field.proofs.Mod.{same, back, ◌⊙◌, plus, times}
-use Rattle.gf_sums.specs.Sums.{Comb, weigh, scale}
-use Rattle.gf_sums.proofs.Totals.{weigh-append, weigh-scale, weigh-same, coefficient-weigh}
+use Rattle.gf_sums.specs.Sums.{weigh, scale}
+use Rattle.gf_sums.proofs.Totals.{numbers-tell, weigh-zero, weigh-append, weigh-scale, weigh-same, coefficient-weigh}
 use Rattle.alb_rows.specs.Row.{Cells, comb, entry, AreSameVector, IsRow, IsRowOver}
 use Rattle.alb_rows.specs.Span.{Same, IsReducedRow}
-use Rattle.alb_rows.proofs.RowLemmas.{told, entry_residue, entry_found}
+use Rattle.alb_rows.proofs.RowLemmas.{entry_residue, entry_found}
 use Rattle.alb_rows.proofs.SpanLemmas.{span_same}
 use Rattle.alb_reduce.specs.Reduction.{IsNewTag, IsTag, row_with, offered}
 use Rattle.alb_reduce.specs.Echelon.{Agrees, AllAgree, RecipesFollow, AreRecipes}
@@ -21,11 +21,11 @@ use Rattle.alb_reduce.specs.Echelon.{Agrees, AllAgree, RecipesFollow, AreRecipes
 weight_sum : (p c : ℕ) (w : ℕ → ℕ) (a b a' : Cells) → AreSameVector p (comb a') (comb a ++ scale c (comb b)) →
     IsSameMod p (weigh w (comb a')) (weigh w (comb a) + c * weigh w (comb b))
 weight_sum p c w a b a' h =
-    weigh-same nat_eq told (comb a') (comb a ++ scale c (comb b)) h w
+    weigh-same nat_eq numbers-tell (comb a') (comb a ++ scale c (comb b)) h w
     ⊙ same (weigh-append w (comb a) (scale c (comb b)) ∙ ap (λ n. weigh w (comb a) + n) (weigh-scale w c (comb b)))
 
 weight_times : (p c : ℕ) (w : ℕ → ℕ) (a a' : Cells) → AreSameVector p (comb a') (scale c (comb a)) → IsSameMod p (weigh w (comb a')) (c * weigh w (comb a))
-weight_times p c w a a' h = weigh-same nat_eq told (comb a') (scale c (comb a)) h w ⊙ same (weigh-scale w c (comb a))
+weight_times p c w a a' h = weigh-same nat_eq numbers-tell (comb a') (scale c (comb a)) h w ⊙ same (weigh-scale w c (comb a))
 
 pub agrees_sum : (p c : ℕ) (w u : ℕ → ℕ) (r b r' q d q' : Cells) → AreSameVector p (comb r') (comb r ++ scale c (comb b)) →
     AreSameVector p (comb q') (comb q ++ scale c (comb d)) → Agrees p w u d b → Agrees p w u q r → Agrees p w u q' r'
@@ -114,10 +114,6 @@ weights_other [] t v w h e = refl
 weights_other (x ∷ xs) t v w h e =
     rw (e x.0 (λ q. h 0 x (omega arith) (sym q)), weights_other xs t v w (λ k d l. h (suc k) d (omega arith)) e) refl
 
-weigh_nothing : (f : Comb ℕ) → weigh (λ i. 0) f ≡ 0
-weigh_nothing [] = refl
-weigh_nothing (t ∷ f) = omega (arith, weigh_nothing f)
-
 -- the row at a place is one over the field, also past the end
 row_at : (p : ℕ) (rows : List Cells) (k : ℕ) → All (IsRowOver p) rows → IsRowOver p (get_or rows k [])
 row_at p rows k h = elim (cases_lt k (length rows)) [
@@ -141,7 +137,7 @@ abbrev pub at_one : ℕ → ℕ → ℕ
 at_one j i = if nat_eq i j then 1 else 0
 
 entry_weight : (xs : Cells) (j : ℕ) → entry xs j ≡ weigh (at_one j) (comb xs)
-entry_weight xs j = coefficient-weigh nat_eq told (comb xs) j
+entry_weight xs j = coefficient-weigh nat_eq numbers-tell (comb xs) j
 
 -- recipes as agreement at weights, and back
 values_agree : (p : ℕ) (offers : List (ℕ × Cells)) (recipes rows : List Cells) (j : ℕ) → AreRecipes p offers recipes rows →
@@ -151,7 +147,7 @@ values_agree p offers recipes rows j h k = record { same = h.gives k j ∙ ap (�
 others_agree : (p : ℕ) (offers : List (ℕ × Cells)) (recipes rows : List Cells) (t : ℕ) → IsNewTag offers t → AreRecipes p offers recipes rows →
     AllAgree p (at_one t) (λ i. 0) recipes rows
 others_agree p offers recipes rows t n h k =
-    same (sym (entry_weight (get_or recipes k []) t) ∙ h.tags k t n ∙ sym (weigh_nothing (comb (get_or rows k []))))
+    same (sym (entry_weight (get_or recipes k []) t) ∙ h.tags k t n ∙ sym (weigh-zero (comb (get_or rows k []))))
 
 recipes_from : (p : ℕ) (offers : List (ℕ × Cells)) (recipes rows : List Cells) → 0 < p → All (IsRowOver p) recipes →
     ((j : ℕ) → AllAgree p (λ t. offered offers t j) (at_one j) recipes rows) → ((t : ℕ) → IsNewTag offers t → AllAgree p (at_one t) (λ i. 0) recipes rows) →
@@ -162,7 +158,7 @@ recipes_from p offers recipes rows pos over values others = record {
       let r = row_at p recipes k over in
       sym (mod-eq_of_lt (entry_residue p (get_or recipes k []) t pos r.row r.residues))
       ∙ ap (λ m. m % p) (entry_weight (get_or recipes k []) t) ∙ (others t n k).same
-      ∙ ap (λ m. m % p) (weigh_nothing (comb (get_or rows k []))) ∙ zero_mod p;
+      ∙ ap (λ m. m % p) (weigh-zero (comb (get_or rows k []))) ∙ zero_mod p;
 }
   where
     zero_mod : (q : ℕ) → 0 % q ≡ 0
@@ -179,7 +175,7 @@ recipes_more p offers tag row first recipes rows recipes' rows' pos over over' n
     (λ j. step (λ t. offered (offers ++ (tag, row) ∷ []) t j) (at_one j) (values_agree p (offers ++ (tag, row) ∷ []) recipes rows j now)
     (same (start (λ t. offered (offers ++ (tag, row) ∷ []) t j) ∙ ap (λ (r : Cells). entry r j) (row_with_new offers tag row new) ∙ entry_weight row j)))
     (λ t n. step (at_one t) (λ i. 0) (others_agree p (offers ++ (tag, row) ∷ []) recipes rows t n now)
-    (same (start (at_one t) ∙ rw (ne_eqb tag t (new_last offers (tag, row) t n)) refl ∙ sym (weigh_nothing (comb row)))))
+    (same (start (at_one t) ∙ rw (ne_eqb tag t (new_last offers (tag, row) t n)) refl ∙ sym (weigh-zero (comb row)))))
   where
     start : (w : ℕ → ℕ) → weigh w (comb first) ≡ w tag
     start w = rw is (omega arith)

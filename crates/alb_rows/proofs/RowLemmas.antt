@@ -1,5 +1,5 @@
 -- The entries of a row.
-use Rattle.std.proofs.Common.{◌≡◌, ◌≢◌, ℕ, zero, suc, ◌+◌, ◌*◌, ◌%◌, ◌<◌, ◌≤◌, ◌⊎◌, inl, inr, List, [], ◌∷◌, ◌++◌, refl, arith, subst, sym, ap, ◌∙◌, length, get_or, take, drop, set, nat_eq}
+use Rattle.std.proofs.Common.{◌≡◌, ◌≢◌, ℕ, zero, suc, ◌+◌, ◌*◌, ◌%◌, ◌<◌, ◌≤◌, inl, inr, List, [], ◌∷◌, ◌++◌, refl, arith, subst, sym, ap, ◌∙◌, length, get_or, take, drop, set, nat_eq}
 use Rattle.std.specs.List.{All}
 use Rattle.std.proofs.lemmas.List.{take_more, get_or-map, length-map, length-take-le, drop_more, get_or_at, set_at, map_more, append_assoc, take_at, get_or_default}
 use Rattle.std.proofs.lemmas.Nat.{mod_below}
@@ -7,9 +7,9 @@ use Rattle.std.proofs.lemmas.List.Elements.{All-push}
 use Rattle.std.proofs.lemmas.List.Quantifiers.{all_pairs_push}
 use Rattle.std.proofs.Math.Nat.{add-mod-mod, mod-mod, mod-eq_of_lt}
 use Rattle.std.proofs.Math.Seq.{take-length}
-use Rattle.std.proofs.lemmas.Bool.{cases_eq, cases_lt, cases_order, eqb-true, eq-eqb, ne_eqb}
-use Rattle.gf_sums.specs.Sums.{Comb, coefficient, scale, Tells}
-use Rattle.gf_sums.proofs.Totals.{total-append, weigh-scale, coefficient-weigh}
+use Rattle.std.proofs.lemmas.Bool.{cases_eq, cases_lt, cases_order, eq-eqb, ne_eqb}
+use Rattle.gf_sums.specs.Sums.{Comb, coefficient, scale}
+use Rattle.gf_sums.proofs.Totals.{numbers-tell, total-append, weigh-scale, coefficient-weigh}
 use Rattle.alb_rows.specs.Row.{Cells, comb, entry, AreSameVector, ColumnsBelow, AreResidues, IsRow, IsRowOver, LeadsWith}
 use Rattle.alb_rows.specs.Merge.{at_column, NextFrom, AddsAt, IsAlone, IsShared, Merged, times_cells}
 use Rattle.std.specs.Prelude.{IfSome, Option, slice_get}
@@ -336,11 +336,8 @@ entry_residue p (x ∷ xs) j pos h r =
 
 -- ---- rows as vectors
 
-pub told : Tells nat_eq
-told = record { sound = eqb-true; whole = λ i. eq-eqb i i refl }
-
 coefficient-scale : (c : ℕ) (f : Comb ℕ) (j : ℕ) → coefficient nat_eq (scale c f) j ≡ c * coefficient nat_eq f j
-coefficient-scale c f j = coefficient-weigh nat_eq told (scale c f) j ∙ weigh-scale _ c f ∙ ap (λ n. c * n) (sym (coefficient-weigh nat_eq told f j))
+coefficient-scale c f j = coefficient-weigh nat_eq numbers-tell (scale c f) j ∙ weigh-scale _ c f ∙ ap (λ n. c * n) (sym (coefficient-weigh nat_eq numbers-tell f j))
 
 pub sum_vector : (p c : ℕ) (xs ys out : Cells) → ((j : ℕ) → entry out j ≡ (entry xs j + c * entry ys j) % p) →
     AreSameVector p (comb out) (comb xs ++ scale c (comb ys))

@@ -5,3 +5,4 @@ pub mod Grammar
 pub mod Setting
 pub mod Monomials
 pub mod Lettering
+pub mod Laws

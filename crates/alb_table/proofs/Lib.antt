@@ -10,6 +10,7 @@ pub mod MonoLemmas
 pub mod ValueLemmas
 pub mod GeneratorLemmas
 pub mod ExampleLemmas
+pub mod ThreeLetters
 pub mod FindLemmas
 pub mod RiseLemmas
 pub mod Bases
@@ -30,3 +31,5 @@ pub mod Numbers
 pub mod LawLemmas
 pub mod RightTables
 pub mod FirstRight
+pub mod RightForLemmas
+pub mod TableValues

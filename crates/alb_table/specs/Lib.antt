@@ -13,5 +13,6 @@ pub mod Columns
 pub mod Laws
 pub mod Limits
 pub mod RightTable
+pub mod RightFor
 pub mod End
 pub mod Held

@@ -1,9 +1,9 @@
 -- The laws of sums over lists and of combinations.
-use Rattle.std.proofs.Common.{◌≡◌, ℕ, zero, suc, ◌+◌, ◌*◌, ◌≤◌, Bool, true, false, List, [], ◌∷◌, ◌++◌, map, length, sym, refl, ap, ◌∙◌, arith, inl, inr}
+use Rattle.std.proofs.Common.{◌≡◌, ℕ, zero, suc, ◌+◌, ◌*◌, ◌≤◌, Bool, true, false, List, [], ◌∷◌, ◌++◌, map, length, nat_eq, sym, refl, ap, ◌∙◌, arith, inl, inr}
 use Rattle.std.specs.Bool.{if◌then◌else◌}
 use Rattle.std.specs.List.{flat_map}
-use Rattle.std.proofs.lemmas.Bool.{cases_Bool}
-use Rattle.std.proofs.Math.Nat.{mul_assoc, add-mul}
+use Rattle.std.proofs.lemmas.Bool.{cases_Bool, eqb-true, eq-eqb}
+use Rattle.std.proofs.Math.Nat.{mul_assoc, mul_left_comm, add-mul}
 use Rattle.gf_field.specs.Modular.{IsSameMod}
 use Rattle.gf_field.proofs.Mod.{same as alike, next, plus, times}
 use Rattle.gf_sums.specs.Sums.{total, Comb, weigh, coefficient, AreSame, scale, multiply, Tells}
@@ -55,8 +55,19 @@ module _ {I : Type 0} where
   weigh-scale w c [] = omega arith
   weigh-scale w c (t ∷ f) = omega (arith, weigh-scale w c f, mul_assoc c t.0 (w t.1))
 
+pub weigh-zero : {I : Type 0} (f : Comb I) → weigh (λ i. 0) f ≡ 0
+weigh-zero [] = refl
+weigh-zero (t ∷ f) = omega (arith, weigh-zero f)
+
 pub weigh-equal : {I : Type 0} (v w : I → ℕ) (f : Comb I) → ((i : I) → v i ≡ w i) → weigh v f ≡ weigh w f
 weigh-equal v w f h = total-equal _ _ f (λ t. ap (λ n. t.0 * n) (h t.1))
+
+-- a weight of two indices, summed in either order
+pub weigh-swap : {I J : Type 0} (w : I → J → ℕ) (f : Comb I) (g : Comb J) → weigh (λ i. weigh (w i) g) f ≡ weigh (λ j. weigh (λ i. w i j) f) g
+weigh-swap w f g =
+    total-equal _ _ f (λ s. sym (total-times s.0 _ g))
+    ∙ total-swap (λ s t. s.0 * (t.0 * w s.1 t.1)) f g
+    ∙ total-equal _ _ g (λ t. total-equal _ _ f (λ s. mul_left_comm s.0 t.0 (w s.1 t.1)) ∙ total-times t.0 _ f)
 
 pub weigh-multiply : {I J K : Type 0} (prod : I → J → Comb K) (w : K → ℕ) (f : Comb I) (g : Comb J) →
     weigh w (multiply prod f g) ≡ weigh (λ i. weigh (λ j. weigh w (prod i j)) g) f
@@ -64,6 +75,10 @@ weigh-multiply prod w f g =
     total-flat _ _ f ∙ total-equal _ _ f (λ s.
     total-flat _ _ g ∙ total-equal _ _ g (λ t. weigh-scale w (s.0 * t.0) (prod s.1 t.1) ∙ mul_assoc s.0 t.0 _)
     ∙ total-times s.0 _ g)
+
+-- numbers are told apart by `nat_eq`
+pub numbers-tell : Tells nat_eq
+numbers-tell = record { sound = eqb-true; whole = λ i. eq-eqb i i refl }
 
 -- ---- equal combinations have equal values at every weight
 

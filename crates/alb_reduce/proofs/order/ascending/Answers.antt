@@ -1,4 +1,4 @@
-use Rattle.std.proofs.Common.{◌≡◌, ◌∙◌, sym}
+use Rattle.std.proofs.Common.{◌∙◌, sym}
 use Rattle.alb_reduce.proofs.EchelonLemmas.{ascending_none, ascending_skip, ascending_more}
 use Rattle.alb_reduce.proofs.PlaceLemmas.{place_contains, place_misses}
 use Rattle.alb_reduce.proofs.order.ascending.Goals as goal

@@ -1,5 +1,5 @@
-use Rattle.std.proofs.Common.{◌≡◌, refl, arith}
-use Rattle.alb_reduce.proofs.PlaceLemmas.{index_found, index_missing, index_past}
+use Rattle.std.proofs.Common.{refl, arith}
+use Rattle.alb_reduce.proofs.PlaceLemmas.{index_found}
 use Rattle.alb_reduce.proofs.places.place_of.Goals as goal
 
 pub returns-else-n-eq0 : goal.returns-else-n-eq0

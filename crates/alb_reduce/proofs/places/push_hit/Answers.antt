@@ -1,5 +1,4 @@
-use Rattle.std.proofs.Common.{◌≡◌}
-use Rattle.alb_reduce.proofs.PlaceLemmas.{hits_skip, hits_more}
+use Rattle.alb_reduce.proofs.PlaceLemmas.{hits_more}
 use Rattle.alb_reduce.proofs.places.push_hit.Goals as goal
 
 pub returns-in_ok-push-in-Some : goal.returns-in_ok-push-in-Some

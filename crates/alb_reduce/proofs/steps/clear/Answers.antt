@@ -1,4 +1,4 @@
-use Rattle.std.proofs.Common.{◌<◌, ◌≡◌, ◌∙◌, [], sym, refl, subst, length, get_or, take, arith}
+use Rattle.std.proofs.Common.{◌<◌, ◌≡◌, [], length, get_or, take, arith}
 use Rattle.std.proofs.lemmas.List.{get_or_read, take_all}
 use Rattle.alb_rows.specs.Row.{entry}
 use Rattle.alb_reduce.specs.Echelon.{AreHits}

@@ -1,4 +1,4 @@
-use Rattle.std.proofs.Common.{◌≡◌, ◌∙◌, refl, sym, subst, length, ℕ, arith}
+use Rattle.std.proofs.Common.{◌≡◌, subst, length, arith}
 use Rattle.alb_rows.specs.Merge.{Merged}
 use Rattle.alb_rows.proofs.merge.merged.Goals as goal
 

@@ -1,4 +1,4 @@
-use Rattle.std.proofs.Common.{◌≡◌, ◌<◌, get_or, length, arith}
+use Rattle.std.proofs.Common.{◌<◌, get_or, arith}
 use Rattle.alb_rows.specs.Merge.{IsAlone}
 use Rattle.alb_rows.proofs.RowLemmas.{alone_left, left_push}
 use Rattle.alb_rows.proofs.merge.take_left.Goals as goal

@@ -1,4 +1,4 @@
-use Rattle.std.proofs.Common.{◌<◌, ◌≡◌, ◌≢◌, length, get_or, arith}
+use Rattle.std.proofs.Common.{◌<◌, ◌≢◌, length, get_or, arith}
 use Rattle.std.proofs.lemmas.Result.{on_ok_weaker}
 use Rattle.alb_rows.specs.Merge.{IsAlone, IsShared}
 use Rattle.alb_rows.proofs.RowLemmas.{merged_right, merged_both, alone_right}

@@ -1,7 +1,6 @@
-use Rattle.std.proofs.Common.{nat_eq, refl}
-use Rattle.std.proofs.lemmas.Bool.{eqb-true, eq-eqb}
-use Rattle.gf_sums.proofs.Totals.{weigh-same}
+use Rattle.std.proofs.Common.{nat_eq}
+use Rattle.gf_sums.proofs.Totals.{numbers-tell, weigh-same}
 use Rattle.gf_sums.proofs.laws.weighs_alike.Goals as goal
 
 pub returns : goal.returns
-returns c p f g w h = weigh-same nat_eq (record { sound = eqb-true; whole = λ i. eq-eqb i i refl }) f g h w
+returns c p f g w h = weigh-same nat_eq numbers-tell f g h w
