@@ -1,8 +1,8 @@
 use Rattle.std.proofs.Common.{rules, ◌≡◌, ℕ, ◌<◌, List, [], sym, subst}
 use Rattle.std.specs.Prelude.{All}
+use Rattle.alb_poly.proofs.Multilinear.{all_from_each}
 use Rattle.alb_mono.specs.Tree.{Tree}
 use Rattle.alb_poly.specs.Rules.{forms}
-use Rattle.alb_block.proofs.ListLemmas.{all-each}
 use Rattle.alb_deriv.specs.Short.{IsSumOf}
 use Rattle.alb_table.specs.Block.{spread}
 use Rattle.alb_table.specs.RightFor.{rules_view}
@@ -20,7 +20,7 @@ push_terms-requires-clause-trace c = c.empty_trace-trace.ensures.trace (forms c.
 
 pub push_terms-requires-clause-within : goal.push_terms-requires-clause-within
 push_terms-requires-clause-within c =
-    all-each (λ (s : ℕ × Tree). IsWithin c.args.tables.now.target c.args.tables.now.degree s.1) c.args.g.now
+    all_from_each (λ (s : ℕ × Tree). IsWithin c.args.tables.now.target c.args.tables.now.degree s.1) c.args.g.now
     (answered-within c.args.tables.now.p (forms c.args.rules.now) c.args.tables.now.target c.args.tables.now.degree c.args.g.now c.requires.zero)
 
 pub push_terms-requires-clause-rules : goal.push_terms-requires-clause-rules
