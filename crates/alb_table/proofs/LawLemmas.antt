@@ -9,7 +9,7 @@ use Rattle.alb_poly.specs.Consequence.{Item, item_value}
 use Rattle.alb_poly.proofs.Consequence.{alike_poly, poly_alike}
 use Rattle.alb_poly.proofs.Multilinear.{each-from, each-map}
 use Rattle.alb_linear.proofs.IdentityLemmas.{list_eq-sound}
-use Rattle.alb_table.specs.Laws.{FactorsAreNormal, MonomialValuesDecide, RightTableIsUnique, RightTablesGrow, FirstTableIsRight, PartsAreConsequences}
+use Rattle.alb_table.specs.Laws.{FactorsAreNormal, MonomialValuesDecide, RightTableIsUnique, RightTablesGrow, FirstTableIsRight}
 use Rattle.alb_table.proofs.Types.{type-listed}
 use Rattle.alb_table.proofs.Normal.{normal-left, normal-right}
 use Rattle.alb_table.proofs.Values.{each-scale}
