@@ -13,7 +13,8 @@ use Rattle.alb_poly.specs.Consequence.{IsConsequence}
 use Rattle.alb_poly.specs.Textbook.{IsTextConsequence}
 use Rattle.alb_problem.specs.Builder.{Builder, with_degrees}
 use Rattle.alb_problem.specs.Refusals.{finish_refusal}
-use Rattle.alb_problem.proofs.TextbookLemmas.{IsWithin-terms, MatchesTextbook-linearizations}
+use Rattle.alb_poly.proofs.AtMost.{IsWithin-terms}
+use Rattle.alb_problem.proofs.TextbookLemmas.{MatchesTextbook-linearizations}
 use Rattle.alb_table.specs.Table.{Table}
 use Rattle.alb_table.specs.Leading.{difference}
 use Rattle.alb_query.specs.Answer.{Answer, Zero, NotZero, NotBuilt, OutOfType, fits, misfit, IsAnswer, AnswersUnless, AnswersFitting, AnswersWithin}
@@ -25,7 +26,8 @@ use Rattle.alb_check.proofs.RefuteLemmas.{all_satisfied}
 use Rattle.alb_table.proofs.TableLemmas.{each-unmap}
 use Rattle.alb_trace.specs.Proof.{Shown, ByLines, ByTable, ByNothing, Shows}
 use Rattle.alb_top.specs.Verdict.{IsMeant, IsCounterexample, IsShownMeant}
-use Rattle.alb_top.specs.Script.{IsTableOf, forms_of}
+use Rattle.alb_table.specs.RightFor.{IsRightFor}
+use Rattle.alb_top.specs.Script.{rules_of, forms_of}
 use Rattle.alb_top.specs.Sound.{IsSoundProblem}
 use Rattle.alb_top.proofs.ProblemLemmas.{text-consequence, table-positive, same-named, all-homogeneous, polynomials-named, accepted-large}
 
@@ -64,11 +66,11 @@ meant-unless b d g a None fit h accepted is = meant-fitting b g a (nat_lt d (gre
 meant-unless b d g a (Some m) fit h accepted is = subst (IsMeant b.field b.identities g) (sym is) tt
 
 -- an answer means what it says of the identities
-pub answer-meant : (b : Builder) (t : Table) (g : Poly) (a : Answer) → IsSoundProblem b → finish_refusal b ≡ None → IsTableOf b t → IsAnswer t.p (forms_of b) t.target t.degree g a
+pub answer-meant : (b : Builder) (t : Table) (g : Poly) (a : Answer) → IsSoundProblem b → finish_refusal b ≡ None → IsRightFor (rules_of b) t → IsAnswer t.p (forms_of b) t.target t.degree g a
     → IsMeant t.p b.identities g a
 answer-meant b t g a h accepted table is =
     let at_field : IsAnswer b.field (forms_of b) b.counts t.degree g a =
-    subst (λ p. IsAnswer p (forms_of b) b.counts t.degree g a) table.field (subst (λ target. IsAnswer t.p (forms_of b) target t.degree g a) table.goal is) in
+    subst (λ p. IsAnswer p (forms_of b) b.counts t.degree g a) table.field (subst (λ target. IsAnswer t.p (forms_of b) target t.degree g a) table.target is) in
     subst (λ p. IsMeant p b.identities g a) (sym table.field) (meant-unless b t.degree g a (misfit b.counts g) refl h accepted at_field)
 
 -- ---- what is shown
@@ -88,12 +90,12 @@ table-counterexample b g r h accepted raw is =
     }
 
 -- what is shown of an answer is what it is to be
-pub shown-meant : (b : Builder) (t : Table) (g : Poly) (a : Answer) (s : Shown) → IsSoundProblem b → finish_refusal b ≡ None → IsTableOf b t → Shows (forms_of b) t g a s → IsShownMeant t.p b.identities g s
+pub shown-meant : (b : Builder) (t : Table) (g : Poly) (a : Answer) (s : Shown) → IsSoundProblem b → finish_refusal b ≡ None → IsRightFor (rules_of b) t → Shows (forms_of b) t g a s → IsShownMeant t.p b.identities g s
 shown-meant b t g Zero (ByLines ls) h accepted table e = tt
 shown-meant b t g (NotZero f) (ByTable r) h accepted table e =
-    let raw : IsRaw b.field (length b.counts) r = subst (λ p. IsRaw p (length b.counts) r) table.field (subst (λ target. IsRaw t.p (length target) r) table.goal e.over) in
+    let raw : IsRaw b.field (length b.counts) r = subst (λ p. IsRaw p (length b.counts) r) table.field (subst (λ target. IsRaw t.p (length target) r) table.target e.over) in
     let is : tables.IsVerdict b.field b.counts (forms_of b) r g tables.Refuted =
-    subst (λ p. tables.IsVerdict p b.counts (forms_of b) r g tables.Refuted) table.field (subst (λ target. tables.IsVerdict t.p target (forms_of b) r g tables.Refuted) table.goal e.refutes) in
+    subst (λ p. tables.IsVerdict p b.counts (forms_of b) r g tables.Refuted) table.field (subst (λ target. tables.IsVerdict t.p target (forms_of b) r g tables.Refuted) table.target e.refutes) in
     subst (λ p. IsCounterexample p b.identities g r) (sym table.field) (table-counterexample b g r h accepted raw is)
 shown-meant b t g (NotBuilt n) ByNothing h accepted table e = tt
 shown-meant b t g (OutOfType m) ByNothing h accepted table e = tt

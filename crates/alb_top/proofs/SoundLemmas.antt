@@ -13,7 +13,7 @@ use Rattle.alb_problem.specs.Refusals as refusals
 use Rattle.alb_problem.specs.Refusals.{finish_refusal}
 use Rattle.alb_script.specs.Asked as asking
 use Rattle.alb_script.specs.Asked.{Asked}
-use Rattle.alb_script.specs.Refusals.{command_text}
+use Rattle.alb_script.specs.Refusals.{command_text, stated_text}
 use Rattle.alb_script.specs.Words.{belongs}
 use Rattle.alb_script.specs.declared.word.Word.TheVariants as word
 use Rattle.alb_script.specs.declared.form.Form.{Form}
@@ -33,12 +33,12 @@ use Rattle.alb_query.proofs.LawLemmas.{each-is-answered}
 use Rattle.alb_trace.proofs.Shown.{each-is-shown}
 use Rattle.alb_answer.specs.Answers.{answer_line, dimension_lines, product_lines, built_line}
 use Rattle.alb_top.specs.Verdict.{Verdict, Rejected, IsVerdict, IsJustified, derived, block_text, of_table}
-use Rattle.alb_top.specs.Script.{State, Open, NoBlock, Claimed, Refused, Reply, Nothing, Ready, Told, RefusedLine, Judged, start, forms_of, stated_text, stated, with_problem, tell, obey, IsTableOf, Builds, BuildsBy, BuildsUnless, AsksTable, Obeys, ObeysLine, Commands, refuse_line, asked_of, letters_of, total_of, begins_block, shut, Judges, EndsBlock, inside, OfBlock, AnswersIn, AnswersLine, AnswersEnd, Step, Finish, shown_text, text_of}
+use Rattle.alb_top.specs.Script.{State, Open, NoBlock, Claimed, Refused, Reply, Nothing, Ready, Told, RefusedLine, Judged, start, forms_of, stated, with_problem, tell, obey, rules_of, Builds, BuildsBy, BuildsUnless, AsksTable, Obeys, ObeysLine, Commands, refuse_line, asked_of, letters_of, total_of, begins_block, shut, Judges, EndsBlock, inside, OfBlock, AnswersIn, AnswersLine, AnswersEnd, Step, Finish, shown_text, text_of}
 use Rattle.alb_top.specs.View.{IsTimely, StandsBy}
 use Rattle.alb_top.specs.Sound.{IsSoundProblem, IsSound, IsBehindBuild, HasRight, HasTable}
 use Rattle.alb_top.proofs.EvidenceLemmas.{evidence-raw}
 use Rattle.alb_top.proofs.AskedLemmas.{IsKnown, asked-timely, asked-known}
-use Rattle.alb_top.proofs.ProblemLemmas.{stated-sound, text-consequence, table-positive, same-named, all-homogeneous, polynomials-named, accepted-large, problem-forms, forms-multilinear}
+use Rattle.alb_top.proofs.ProblemLemmas.{none-letters, stated-sound, text-consequence, table-positive, same-named, all-homogeneous, polynomials-named, accepted-large, problem-forms, forms-multilinear}
 use Rattle.alb_top.proofs.QuestionLemmas.{answer-meant, shown-meant}
 use Rattle.alb_top.proofs.Totality.{problem-ends}
 
@@ -255,7 +255,7 @@ table-form form.Check is = absurd (cc)
 table-form form.Batch is = refl
 table-form form.Session is = refl
 
-letters-built : (b : Bool) (ls : List ℕ) → b ≡ true → (if b then ls else []) ≡ ls
+pub letters-built : (b : Bool) (ls : List ℕ) → b ≡ true → (if b then ls else []) ≡ ls
 letters-built true ls h = refl
 letters-built false ls h = absurd (cc)
 
@@ -264,7 +264,7 @@ asks_polynomial-some : (o : Option Table) (old : State) (g : Poly) → IsSound o
 asks_polynomial-some None old g h built right = absurd right
 asks_polynomial-some (Some t) old g h built right =
     let forms = problem-forms old.problem h.problem in
-    let a = each-is-answered (forms_of old.problem) t g (forms-multilinear old.problem.field (forms_of old.problem) forms.linearized) forms.high right.table right.right in (
+    let a = each-is-answered (rules_of old.problem) t g right in (
       Told (answer_line t.p old.problem.letters t.degree a.0),
       (tell (Told (answer_line t.p old.problem.letters t.degree a.0)) old).1,
       record { answer = a.0; is = a.1; told = refl; meant = answer-meant old.problem t g a.0 h.problem (h.accepted built) right a.1 },
@@ -274,10 +274,9 @@ asks_prove-some : (o : Option Table) (old : State) (g : Poly) → IsSound old �
     → (reply : Reply) × (new : State) × AsksTable o old (asking.Prove g) reply new
 asks_prove-some None old g h built right = absurd right
 asks_prove-some (Some t) old g h built right =
-    let forms = problem-forms old.problem h.problem in
-    let multi = forms-multilinear old.problem.field (forms_of old.problem) forms.linearized in
-    let a = each-is-answered (forms_of old.problem) t g multi forms.high right.table right.right in
-    let s = each-is-shown (forms_of old.problem) t g a.0 multi forms.high right.table right.right a.1 in (
+    let few : length (forms_of old.problem) < 10 ^ 18 = problem-few old.problem h.problem in
+    let a = each-is-answered (rules_of old.problem) t g right in
+    let s = each-is-shown (rules_of old.problem) t g a.0 right few a.1 in (
       Told (answer_line t.p old.problem.letters t.degree a.0 ++ shown_text t.p old.problem.letters s.0),
       (tell (Told (answer_line t.p old.problem.letters t.degree a.0 ++ shown_text t.p old.problem.letters s.0)) old).1,
       record {
@@ -435,6 +434,8 @@ sound-start f = record {
   problem = record {
     field = refl;
     generators = record { named = refl; positive = All-nil _; low = omega arith };
+    letters = none-letters;
+    few = omega arith;
     homogeneous = tt;
     faultless = tt;
   };

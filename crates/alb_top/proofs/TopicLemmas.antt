@@ -18,15 +18,13 @@ use Rattle.alb_script.specs.Asked as asking
 use Rattle.alb_script.specs.Asked.{Asked}
 use Rattle.alb_script.specs.declared.form.Form.{Form}
 use Rattle.alb_script.specs.declared.form.Form.TheVariants as form
-use Rattle.alb_block.specs.Asked.{AreRules}
-use Rattle.alb_table.specs.Table.{first_table}
+use Rattle.alb_table.specs.RightFor.{RulesView, rules_view, AreRules, IsRightFor}
 use Rattle.alb_table.specs.End.{end_of, IsEnd}
 use Rattle.alb_table.specs.Right.{AreHigh}
-use Rattle.alb_table.specs.RightTable.{IsRightTable}
 use Rattle.alb_query.specs.Answer as query
 use Rattle.alb_query.specs.Views.{answer_of}
 use Rattle.alb_answer.specs.Answers.{answer_line, dimension_lines, product_lines}
-use Rattle.alb_top.specs.Script.{State, NoBlock, Told, IsTableOf, BuildsBy, BuildsUnless, Obeys, forms_of, shown_text}
+use Rattle.alb_top.specs.Script.{State, NoBlock, Told, rules_of, BuildsBy, BuildsUnless, Obeys, forms_of, shown_text}
 use Rattle.alb_top.specs.Sound.{IsSoundProblem}
 use Rattle.alb_top.specs.View.{answer, state, said, is_built, table_of, IsStage, IsScript, IsTopic, Begins, RepliesTo}
 use Rattle.alb_top.specs.declared.reply.Reply as Rust
@@ -57,21 +55,17 @@ accepted-forms q a =
 pub accepted-high : (q : Problem) → IsAccepted q → AreHigh (forms q.rules)
 accepted-high q a = let f : AreForms q.rules.field (forms q.rules) = accepted-forms q a in f.high
 
-pub accepted-rules : (q : Problem) → IsAccepted q → AreRules q.rules (first_table q.rules.field q.rules.target)
+pub accepted-rules : (q : Problem) → IsAccepted q → AreRules (rules_view q.rules)
 accepted-rules q a =
     let f : AreForms q.rules.field (forms q.rules) = accepted-forms q a in
     let n : length (forms q.rules) ≡ length q.identities.items = ap length a.stand ∙ length-map q.identities.items _ in
-    let m : length (forms q.rules) ≡ length q.rules.linears.items = length-map q.rules.linears.items _ in
-    record { linearized = f.linearized; low = f.low; high = f.high; few = omega (arith, n, m, a.few) }
-
-pub topic-rules : (t : Topic) → IsTopic t → AreRules t.problem.rules t.tables
-topic-rules t h =
-    let r : AreRules t.problem.rules (first_table t.problem.rules.field t.problem.rules.target) = accepted-rules t.problem h.accepted in
-    record { linearized = subst (λ p. Each (IsLinearized p) (forms t.problem.rules)) (sym h.field) r.linearized; low = r.low; high = r.high; few = r.few }
+    record { prime = a.prime; goal = record { positive = a.positive; some = a.some; small = a.low }; linearized = f.linearized; low = f.low; high = f.high; few = omega (arith, n, a.few) }
 
 -- what a topic says of its problem
-pub topic-table : (t : Topic) → IsTopic t → IsTableOf (problem t.problem) t.tables
-topic-table t h = record { field = h.field; goal = h.goal; table = h.table; right = subst (λ fs. IsRightTable fs t.tables) (forms-rules t.problem h.accepted) h.right }
+pub topic-table : (t : Topic) → IsTopic t → IsRightFor (rules_of (problem t.problem)) t.tables
+topic-table t h =
+    let over : List Form → RulesView = λ fs. record { p = t.problem.rules.field; target = t.problem.rules.target; forms = fs } in
+    subst (λ fs. IsRightFor (over fs) t.tables) (forms-rules t.problem h.accepted) h.right
 
 -- ---- questions
 
@@ -161,7 +155,7 @@ begun form.Batch b closed clean q r (stage.Asking t) whole a e =
     record {
       table = topic.tables;
       end = end_of e.end;
-      right = subst (λ c. IsTableOf c topic.tables) same (topic-table topic e.topic);
+      right = subst (λ c. IsRightFor (rules_of c) topic.tables) same (topic-table topic e.topic);
       ends = subst (λ fs. IsEnd fs topic.tables (end_of e.end)) (forms-rules q a ∙ ap forms_of whole) e.ends;
       told = ap₂ (λ (x : Rust.Reply) (c : Builder). (answer x, topical-of c closed clean topic)) e.told same;
     }

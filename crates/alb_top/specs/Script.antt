@@ -2,25 +2,22 @@
 use Rattle.std.specs.Prelude.{◌≡◌, ℕ, ◌+◌, Bool, true, false, ◌&&◌, List, [], ◌∷◌, ◌++◌, length, map, drop, sum, Option, None, Some, Result, Ok, Err, nat_eq, nat_lt, if◌then◌else◌, decimal, codes}
 use Rattle.std.specs.List.{starts_with}
 use Rattle.alb_lex.specs.Lexing.{is_blank}
-use Rattle.alb_mono.specs.Letters.{alphabet}
 use Rattle.alb_poly.specs.Poly.{Poly}
 use Rattle.alb_poly.specs.Instance.{Form}
-use Rattle.alb_print.specs.Text.{mono_text}
-use Rattle.alb_linear.specs.Identity as identity
 use Rattle.alb_problem.specs.Generators.{letters, counts}
 use Rattle.alb_problem.specs.Builder.{Builder, linear_form}
 use Rattle.alb_problem.specs.Refusals as refusals
 use Rattle.alb_script.specs.Asked as asking
 use Rattle.alb_script.specs.Asked.{Asked, Field, Generators, Identity, Build, Claim, Quit, asked}
-use Rattle.alb_script.specs.Refusals.{line_of, command_text}
+use Rattle.alb_script.specs.Refusals.{line_of, command_text, stated_text}
 use Rattle.alb_script.specs.declared.form.Form as scripts
 use Rattle.alb_script.specs.declared.form.Form.TheVariants as form
 use Rattle.alb_script.specs.declared.error.CommandError.{CommandError}
 use Rattle.alb_evidence.specs.Words.{ends_word, is_end}
 use Rattle.alb_evidence.specs.Block.{Evidence, Fault, evidence_of}
 use Rattle.alb_evidence.specs.Texts.{lines_text, table_text}
-use Rattle.alb_table.specs.Table.{Table, IsTable}
-use Rattle.alb_table.specs.RightTable.{IsRightTable}
+use Rattle.alb_table.specs.RightFor.{RulesView, IsRightFor}
+use Rattle.alb_table.specs.Table.{Table}
 use Rattle.alb_table.specs.End.{End, IsEnd}
 use Rattle.alb_query.specs.Answer.{Answer, IsAnswer}
 use Rattle.alb_trace.specs.Proof.{Shown, ByLines, ByTable, ByNothing, Shows}
@@ -81,25 +78,6 @@ text_of (Told text) = text
 text_of (RefusedLine text) = text
 text_of (Judged v) = verdict_text v
 
--- ---- refusals of the problem
-
-abbrev pub fault_text : identity.Fault → List ℕ
-fault_text identity.Zero = codes "refused 30\n"
-fault_text (identity.NotHomogeneous m) = line_of (codes "refused 31: ") (mono_text alphabet false m)
-fault_text identity.DegreeOne = codes "refused 32\n"
-fault_text identity.DegreeOver8 = codes "refused 33\n"
-
-abbrev pub stated_text : refusals.Refusal → List ℕ
-stated_text refusals.NotInTable = codes "refused 1\n"
-stated_text refusals.FieldAfterIdentity = codes "refused 40\n"
-stated_text refusals.GeneratorsTwice = codes "refused 45\n"
-stated_text (refusals.BadGenerators place) = line_of (codes "refused 41 at ") (decimal place)
-stated_text refusals.TooManyIdentities = codes "refused 42\n"
-stated_text (refusals.NoIdentity fault) = fault_text fault
-stated_text (refusals.TooManyLinear n) = line_of (codes "refused 34: ") (decimal n)
-stated_text refusals.NoGenerators = codes "refused 43\n"
-stated_text refusals.FieldTooSmall = codes "refused 44\n"
-
 -- a line was refused, or its evidence rejected
 abbrev pub is_clean : Reply → Bool
 is_clean (RefusedLine text) = false
@@ -137,18 +115,15 @@ obey s statement = with_problem s (stated s.problem statement)
 
 -- ---- tables and questions
 
--- the table is right for the problem
-pub record IsTableOf (b : Builder) (t : Table) : Type 0 where
-  pub field : t.p ≡ b.field
-  pub goal : t.target ≡ b.counts
-  pub table : IsTable t
-  pub right : IsRightTable (forms_of b) t
+-- the rules of a problem
+abbrev pub rules_of : Builder → RulesView
+rules_of b = record { p = b.field; target = b.counts; forms = forms_of b }
 
 -- the right table at which the building of an accepted problem ends, and how; the table stands in the script from here on
 pub record Builds (old : State) (reply : Reply) (new : State) : Type 0 where
   pub table : Table
   pub end : End
-  pub right : IsTableOf old.problem table
+  pub right : IsRightFor (rules_of old.problem) table
   pub ends : IsEnd (forms_of old.problem) table end
   pub told : (reply, new) ≡ tell (Told (built_line table.degree end)) (record old { built = true; table = Some table })
 

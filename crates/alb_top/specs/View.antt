@@ -31,8 +31,8 @@ use Rattle.alb_script.specs.Refusals.{refusal_text, is_memory, IsOverAlphabet}
 use Rattle.alb_top.specs.Verdict as verdicts
 use Rattle.alb_top.specs.Verdict.{numbered, failure_text}
 use Rattle.alb_top.specs.Script as script
-use Rattle.alb_table.specs.Table.{Table, IsTable}
-use Rattle.alb_table.specs.RightTable.{IsRightTable}
+use Rattle.alb_table.specs.RightFor.{rules_view, IsRightFor}
+use Rattle.alb_table.specs.Table.{Table}
 use Rattle.alb_table.specs.End.{end_of, IsEnd}
 use Rattle.alb_table.specs.declared.end.BuildEnd.{BuildEnd}
 use Rattle.alb_query.specs.Answer as query
@@ -168,10 +168,7 @@ state s = record {
 -- the table of an accepted problem is right for its rules
 pub record IsTopic (t : Topic) : Type 0 where
   pub accepted : IsAccepted t.problem
-  pub field : t.tables.p ≡ t.problem.rules.field
-  pub goal : t.tables.target ≡ t.problem.rules.target
-  pub table : IsTable t.tables
-  pub right : IsRightTable (forms t.problem.rules) t.tables
+  pub right : IsRightFor (rules_view t.problem.rules) t.tables
 
 -- a batch has its table behind `build`, and no other form has one
 abbrev pub IsStage : scripts.Form → Stage → Type 0
