@@ -1,5 +1,5 @@
 -- Every state that a script comes to is sound, and each line has an answer there, which is justified.
-use Rattle.std.proofs.Common.{◌≡◌, ℕ, ◌+◌, ◌<◌, Bool, true, false, List, [], ◌∷◌, ◌++◌, length, map, All, Option, Some, None, Result, Ok, Err, refl, sym, ap, ◌∙◌, subst, arith}
+use Rattle.std.proofs.Common.{◌≡◌, ℕ, ◌+◌, ◌<◌, ◌^◌, Bool, true, false, List, [], ◌∷◌, ◌++◌, length, map, All, Option, Some, None, Result, Ok, Err, refl, sym, ap, ◌∙◌, subst, arith}
 use Rattle.std.specs.Prelude.{if◌then◌else◌, IsTrue, codes, nat_lt}
 use Rattle.std.proofs.lemmas.List.Elements.{All-nil}
 use Rattle.gf_field.specs.Primes.{IsInTable, is_in_table, primes}
@@ -38,7 +38,7 @@ use Rattle.alb_top.specs.View.{IsTimely, StandsBy}
 use Rattle.alb_top.specs.Sound.{IsSoundProblem, IsSound, IsBehindBuild, HasRight, HasTable}
 use Rattle.alb_top.proofs.EvidenceLemmas.{evidence-raw}
 use Rattle.alb_top.proofs.AskedLemmas.{IsKnown, asked-timely, asked-known}
-use Rattle.alb_top.proofs.ProblemLemmas.{none-letters, stated-sound, text-consequence, table-positive, same-named, all-homogeneous, polynomials-named, accepted-large, problem-forms, forms-multilinear}
+use Rattle.alb_top.proofs.ProblemLemmas.{problem-few, none-letters, stated-sound, text-consequence, table-positive, same-named, all-homogeneous, polynomials-named, accepted-large, problem-forms, forms-multilinear}
 use Rattle.alb_top.proofs.QuestionLemmas.{answer-meant, shown-meant}
 use Rattle.alb_top.proofs.Totality.{problem-ends}
 

@@ -7,6 +7,7 @@ use Rattle.std.proofs.lemmas.Bool.Decides.{nat_tests}
 use Rattle.std.proofs.lemmas.List.{length-map}
 use Rattle.alb_mono.specs.Listing.{Each}
 use Rattle.alb_poly.specs.Identity.{IsHomogeneous}
+use Rattle.alb_poly.specs.Instance as instances
 use Rattle.alb_poly.specs.Rules.{forms}
 use Rattle.alb_linear.specs.Identity.{leading_type, identity_fault, IsLinearized}
 use Rattle.alb_linear.specs.declared.identity.Identity.{Identity}
@@ -64,7 +65,7 @@ accepted-rules q a =
 -- what a topic says of its problem
 pub topic-table : (t : Topic) → IsTopic t → IsRightFor (rules_of (problem t.problem)) t.tables
 topic-table t h =
-    let over : List Form → RulesView = λ fs. record { p = t.problem.rules.field; target = t.problem.rules.target; forms = fs } in
+    let over : List instances.Form → RulesView = λ fs. record { p = t.problem.rules.field; target = t.problem.rules.target; forms = fs } in
     subst (λ fs. IsRightFor (over fs) t.tables) (forms-rules t.problem h.accepted) h.right
 
 -- ---- questions

@@ -66,7 +66,11 @@ AreAlike line P Q = (r q : Reply) (m n : State) → P r m → Q q n → ((r ≡ 
 alike : (line : List ℕ) (P Q : Reply → State → Type 0) → AreSame P Q → AreAlike line P Q
 alike line P Q h r q m n x y = let s = h r q m n x y in (inl s.0, s.1)
 
-given-same : (a : Reply × State) (o : Option Table) → HasTwin a.1 o → AreSame (λ r n. (r, n) ≡ a) (λ r n. (r, n) ≡ (a.0, with_table a.1 o))
+-- an answer, with another table
+abbrev other_of : Reply × State → Option Table → Reply × State
+other_of a o = (a.0, with_table a.1 o)
+
+given-same : (a : Reply × State) (o : Option Table) → HasTwin a.1 o → AreSame (λ r n. (r, n) ≡ a) (λ r n. (r, n) ≡ other_of a o)
 given-same a o w r q m n h k =
     let here : m ≡ a.1 = ap (λ x. x.1) h in
     let there : n ≡ with_table a.1 o = ap (λ x. x.1) k in (
@@ -193,10 +197,10 @@ module _ (old : State) (o : Option Table) (sound : IsSoundProblem old.problem) w
             tables = subst (λ (s : State). HasTwin s o) (sym next) w;
           },
         )
-    asks-alike line asking.Dimensions is = alike line _ _ (told-same (dimension_lines t) (dimension_lines u)
-        (print-alike (forms_of old.problem) t u old.problem.letters (two-right t u tt' uu') same).0 w)
-    asks-alike line asking.Table is = alike line _ _ (told-same (product_lines old.problem.letters t) (product_lines old.problem.letters u)
-        (print-alike (forms_of old.problem) t u old.problem.letters (two-right t u tt' uu') same).1 w)
+    asks-alike line asking.Dimensions is r q m n h k = alike line _ _ (told-same (dimension_lines t) (dimension_lines u)
+        (print-alike (forms_of old.problem) t u old.problem.letters (two-right t u tt' uu') same).0 w) r q m n h k
+    asks-alike line asking.Table is r q m n h k = alike line _ _ (told-same (product_lines old.problem.letters t) (product_lines old.problem.letters u)
+        (print-alike (forms_of old.problem) t u old.problem.letters (two-right t u tt' uu') same).1 w) r q m n h k
     asks-alike line asking.Blank is r q m n h k = absurd h
     asks-alike line (asking.Field p) is r q m n h k = absurd h
     asks-alike line (asking.Generators ts end) is r q m n h k = absurd h
@@ -208,9 +212,9 @@ module _ (old : State) (o : Option Table) (sound : IsSoundProblem old.problem) w
 
   table-alike : (x y : Option Table) → AreTwins true old.problem x y → HasTwin old o → (line : List ℕ) (a : Asked) → asked_of old line ≡ Ok a
       → AreAlike line (λ r n. AsksTable x old a r n) (λ r n. AsksTable y old' a r n)
-  table-alike (Some t) (Some u) z w line a is = asks-alike t u z.0 z.1 z.2 w line a is
+  table-alike (Some t) (Some u) z w line a is r q m n h k = asks-alike t u z.0 z.1 z.2 w line a is r q m n h k
   table-alike None y z w line a is r q m n h k = absurd h
-  table-alike (Some t) None z w line a is = absurd z
+  table-alike (Some t) None z w line a is r q m n h k = absurd z
 
   question-alike : HasTwin old o → old.built ≡ true → (line : List ℕ) (a : Asked) → asked_of old line ≡ Ok a
       → AreAlike line (λ r n. AsksTable old.table old a r n) (λ r n. AsksTable o old' a r n)
