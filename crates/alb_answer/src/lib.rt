@@ -6,6 +6,3 @@ mod products;
 
 pub use answer::{write_answer, write_built};
 pub use products::{write_dimensions, write_products};
-
-#[cfg(test)]
-mod tests;

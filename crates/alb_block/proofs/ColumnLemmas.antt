@@ -1,6 +1,5 @@
 -- The columns of a type are its products of two basis monomials, descending.
-use Rattle.std.proofs.Common.{◌≡◌, ℕ, zero, suc, ◌+◌, ◌-◌, ◌<◌, ◌≤◌, true, List, [], ◌∷◌, map, length, replicate, sym, refl, ap, ◌∙◌, subst, arith, sum}
-use Rattle.std.proofs.Math.ListN.{length-replicate}
+use Rattle.std.proofs.Common.{◌≡◌, ℕ, zero, suc, ◌+◌, ◌-◌, ◌<◌, ◌≤◌, true, List, [], ◌∷◌, map, length, sym, refl, ap, ◌∙◌, subst, arith, sum}
 use Rattle.std.specs.Ordering.{flip_args}
 use Rattle.std.specs.declared.cmp.Ordering.{Ordering}
 use Rattle.std.specs.declared.cmp.Ordering.TheVariants.{Less}
@@ -8,7 +7,7 @@ use Rattle.alb_mono.specs.Listing.{Each, IsIn, Ascends}
 use Rattle.alb_mono.specs.Tree.{Tree, node, degree, type_of, type_plus, cmp_types, cmp_trees, are_below, AreBelow}
 use Rattle.alb_mono.specs.Types.{rising, splits, IsSplit}
 use Rattle.alb_mono.proofs.ListingLemmas.{each-member, each-map, ascends-append, in-map}
-use Rattle.alb_mono.proofs.Leaves.{below_from_test, length-type_of, plus-node, plus_replicate, sum-type_of}
+use Rattle.alb_mono.proofs.Leaves.{below_from_test, length-type_of, sum-type_of}
 use Rattle.alb_mono.proofs.TypesListing.{splits-listing}
 use Rattle.alb_poly.specs.Instance.{Form}
 use Rattle.alb_table.specs.PartView.{PartView, first_of, dim_of, elems, monos, mono_at}
@@ -25,14 +24,11 @@ use Rattle.alb_table.proofs.RangeLemmas.{InRange, type_of_range, product_of, pro
 use Rattle.alb_table.proofs.RightTables.{length-monos, number-type, number-basis, basis-number, numbers-ascend, type-to}
 use Rattle.alb_block.specs.Instances.{columns_of}
 use Rattle.alb_block.specs.Meaning.{column_monos}
-use Rattle.alb_block.proofs.ListLemmas.{in-reverse, each-reverse, descends, sorted-from, contains-in, ascends-mapped, each-in, in-parts, in-mapped, in-run}
+use Rattle.alb_table.proofs.TableLemmas.{each-in}
+use Rattle.alb_table.proofs.RangeLemmas.{rising_bounds}
+use Rattle.alb_block.proofs.ListLemmas.{in-reverse, each-reverse, descends, sorted-from, contains-in, ascends-mapped, in-parts, in-mapped}
 use Rattle.alb_block.proofs.OrderLemmas.{types-order, less-by-type, less-by-left, less-by-right}
-
--- the type of a product
-type-product : (n : ℕ) (l r : Tree) → type_of n (node l r) ≡ type_plus (type_of n l) (type_of n r)
-type-product n l r =
-    sym (plus_replicate n (node l r)) ∙ sym (plus-node (replicate n 0) n l r (length-replicate n 0))
-    ∙ ap (λ xs. type_plus xs (type_of n r)) (plus_replicate n l)
+use Rattle.alb_poly.proofs.Falling.{type_of-node}
 
 -- the product of a pair of numbers
 abbrev pub pair_mono : List PartView → ℕ × ℕ → Tree
@@ -75,7 +71,7 @@ module _ (fs : List Form) (t : Table) (tab : IsTable t) (right : IsRight t.p fs 
   row-ascends w u b k zero low high = tt
   row-ascends w u b k (suc n) low high = (
     each-map (λ q. by_mono t.parts (b, k) q ≡ Less) (λ c. (b, c)) (rising (suc k) n) (each-in (λ c. by_mono t.parts (b, k) (b, c) ≡ Less) (rising (suc k) n) (λ c m.
-        let i = in-run (suc k) n c m in
+        let i = rising_bounds (suc k) n c m in
         let rk : InRange t.parts u k = record { low = low; high = omega (arith, i.0, i.1) } in
         let rc : InRange t.parts u c = record { low = omega (arith, i.0); high = omega (arith, i.1) } in
         less-by-right (mono_at t.parts b) (mono_at t.parts k) (mono_at t.parts c)
@@ -101,7 +97,7 @@ module _ (fs : List Form) (t : Table) (tab : IsTable t) (right : IsRight t.p fs 
           let x = in-mapped (λ j. (k, j)) q (rising (first_of t.parts u) (dim_of t.parts u)) a in
           let y = in-parts (λ i. map (λ j. (i, j)) (rising (first_of t.parts u) (dim_of t.parts u))) r (rising (suc k) n) z in
           let v = in-mapped (λ j. (y.0, j)) r (rising (first_of t.parts u) (dim_of t.parts u)) y.2 in
-          let i = in-run (suc k) n y.0 y.1 in
+          let i = rising_bounds (suc k) n y.0 y.1 in
           let rk : InRange t.parts w k = record { low = low; high = omega (arith, i.0, i.1, high) } in
           let ri : InRange t.parts w y.0 = record { low = omega (arith, i.0, low); high = omega (arith, i.1, high) } in
           let less : by_mono t.parts (k, x.0) (y.0, v.0) ≡ Less =
@@ -117,8 +113,8 @@ module _ (fs : List Form) (t : Table) (tab : IsTable t) (right : IsRight t.p fs 
   split-ranges s q h =
       let y = in-parts (λ i. map (λ j. (i, j)) (rising (first_of t.parts s.1) (dim_of t.parts s.1))) q (rising (first_of t.parts s.0) (dim_of t.parts s.0)) h in
       let v = in-mapped (λ j. (y.0, j)) q (rising (first_of t.parts s.1) (dim_of t.parts s.1)) y.2 in
-      let i = in-run (first_of t.parts s.0) (dim_of t.parts s.0) y.0 y.1 in
-      let j = in-run (first_of t.parts s.1) (dim_of t.parts s.1) v.0 v.1 in
+      let i = rising_bounds (first_of t.parts s.0) (dim_of t.parts s.0) y.0 y.1 in
+      let j = rising_bounds (first_of t.parts s.1) (dim_of t.parts s.1) v.0 v.1 in
       let both : InRange t.parts s.0 y.0 × InRange t.parts s.1 v.0 = (record { low = i.0; high = i.1 }, record { low = j.0; high = j.1 }) in
       subst (λ z. InRange t.parts s.0 z.0 × InRange t.parts s.1 z.1) (sym v.2) both
 
@@ -156,7 +152,7 @@ module _ (fs : List Form) (t : Table) (tab : IsTable t) (right : IsRight t.p fs 
         right_basis = number-basis fs t tab right q.1 (type_of_range t.parts k.right q.1 k.right_range).0;
         type = record {
           below = rw (bx, by) refl;
-          counts = type-product (length w) x y ∙ ap (λ z. type_plus z (type_of (length w) y)) tx ∙ ap (type_plus k.left) ty ∙ k.split.both;
+          counts = type_of-node (length w) x y ∙ ap (λ z. type_plus z (type_of (length w) y)) tx ∙ ap (type_plus k.left) ty ∙ k.split.both;
         };
       }
 
@@ -169,7 +165,7 @@ module _ (fs : List Form) (t : Table) (tab : IsTable t) (right : IsRight t.p fs 
       let c = basis-number fs t tab right h.right h.right_basis in
       let o : IsOfType w (node h.left h.right) = subst (IsOfType w) h.product h.type in
       let sum_is : type_plus (type_of n h.left) (type_of n h.right) ≡ w =
-      sym (type-product n h.left h.right) ∙ ap (λ k. type_of k (node h.left h.right)) (sym e) ∙ o.counts in
+      sym (type_of-node n h.left h.right) ∙ ap (λ k. type_of k (node h.left h.right)) (sym e) ∙ o.counts in
       let split : IsSplit w (type_of n h.left, type_of n h.right) = record {
         long = length-type_of n h.left ∙ sym e;
         long_right = length-type_of n h.right ∙ sym e;

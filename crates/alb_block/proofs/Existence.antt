@@ -32,7 +32,10 @@ use Rattle.alb_block.specs.Instances.{columns_of, Setting, IsInstance, instance_
 use Rattle.alb_block.specs.Meaning.{IsBlockAt}
 use Rattle.alb_block.specs.Offers.{IsRowOf, AreKept, HasMore}
 use Rattle.alb_block.specs.View.{BlockView}
-use Rattle.alb_block.proofs.ListLemmas.{each-in, in-parts, in-mapped, in-run, run-in}
+use Rattle.alb_table.proofs.TableLemmas.{each-in}
+use Rattle.alb_table.proofs.RangeLemmas.{rising_bounds}
+use Rattle.alb_table.proofs.TypesTo.{in-rising}
+use Rattle.alb_block.proofs.ListLemmas.{in-parts, in-mapped}
 use Rattle.alb_block.proofs.MeaningLemmas.{block-at}
 use Rattle.alb_block.proofs.OfferLemmas.{vector-past, has-more, kept-pivot, kept-nothing, spans-all, origins-kept}
 use Rattle.alb_block.proofs.Reductions.{HasPivot, offered-row, kept-none, kept-pivots}
@@ -124,7 +127,7 @@ module _ (s : Setting) (tuples_of : ℕ → List (List ℕ)) (all : (d : ℕ) �
   instances-are = each-in (IsInstance s) (instances_by tuples_of s.forms) (λ name i.
       let k = in-parts (λ k. map (λ x. (k, x)) (tuples_of (form_at s.forms k).degree)) name (rising 0 (length s.forms)) i in
       let x = in-mapped (λ (x : List ℕ). (k.0, x)) name (tuples_of (form_at s.forms k.0).degree) k.2 in
-      let r = in-run 0 (length s.forms) k.0 k.1 in
+      let r = rising_bounds 0 (length s.forms) k.0 k.1 in
       subst (IsInstance s) (sym x.2)
       (record {
         form = omega (arith, r.1);
@@ -133,7 +136,7 @@ module _ (s : Setting) (tuples_of : ℕ → List (List ℕ)) (all : (d : ℕ) �
 
   instances-in : (name : ℕ × List ℕ) → IsInstance s name → IsIn name (instances_by tuples_of s.forms)
   instances-in name h =
-      in-flat (λ k. map (λ x. (k, x)) (tuples_of (form_at s.forms k).degree)) name.0 name (rising 0 (length s.forms)) (run-in 0 (length s.forms) name.0 (omega arith) (omega (arith, h.form)))
+      in-flat (λ k. map (λ x. (k, x)) (tuples_of (form_at s.forms k).degree)) name.0 name (rising 0 (length s.forms)) (in-rising 0 (length s.forms) name.0 (omega arith) (omega (arith, h.form)))
       (in-map (λ (x : List ℕ). (name.0, x)) name.1 (tuples_of (form_at s.forms name.0).degree) ((all (form_at s.forms name.0).degree).all name.1 h.tuple))
 
 -- rows with the span of all instances

@@ -26,7 +26,8 @@ use Rattle.alb_table.proofs.RightTables.{length-monos, number-type, number-basis
 use Rattle.alb_subst.specs.Tuples.{type_sum}
 use Rattle.alb_subst.specs.Sums.{instance_row}
 use Rattle.alb_block.specs.Instances.{Setting, IsInstance, vector_over}
-use Rattle.alb_block.proofs.ListLemmas.{each-all, all-each}
+use Rattle.alb_linear.proofs.LinearLemmas.{each_from_all}
+use Rattle.alb_linear.proofs.LinearLemmas.{all_from_each}
 use Rattle.alb_block.proofs.ColumnLemmas.{pair_mono}
 
 -- ---- the types of a tuple
@@ -74,7 +75,7 @@ module _ (fs : List Form) (t : Table) (tab : IsTable t) (right : IsRight t.p fs 
       ∙ ap (type_plus (type_at t.parts b)) (sum-types bs a.1)
 
   pub numbers-each : (x : List ℕ) → All (λ b. b < size) x → Each (λ b. b < size) x
-  numbers-each x h = each-all (λ b. b < size) x h
+  numbers-each x h = each_from_all (λ b. b < size) x h
 
   basis-each : (x : List ℕ) → Each (λ b. b < size) x → Each (IsBasisTo t.p fs t.target t.degree) (map (mono_at t.parts) x)
   basis-each [] a = tt
@@ -122,7 +123,7 @@ module _ (fs : List Form) (t : Table) (tab : IsTable t) (right : IsRight t.p fs 
             form = h.form;
             tuple = record {
               long = sym (length-map n.numbers (mono_at t.parts)) ∙ ap length n.are ∙ h.full;
-              numbers = all-each (λ b. b < size) n.numbers n.below;
+              numbers = all_from_each (λ b. b < size) n.numbers n.below;
               types = ap (λ k. type_sum t.parts k n.numbers) long ∙ sym (sum-types n.numbers n.below)
                   ∙ ap (λ ms. listed (λ g. total (count g) ms) 0 (length t.target)) n.are
                   ∙ ap (listed (λ g. total (count g) name.1) 0) (sym long) ∙ h.types;

@@ -1,13 +1,12 @@
 -- Lists: what stands in them, turned round, and in order.
-use Rattle.std.proofs.Common.{◌≡◌, ℕ, zero, suc, ◌+◌, ◌<◌, ◌≤◌, List, [], ◌∷◌, ◌++◌, map, length, get_or, reverse, sym, refl, subst, arith, inl, inr, ◌⊎◌}
-use Rattle.std.specs.List.{All, Contains, flat_map, AllByRecursion}
+use Rattle.std.proofs.Common.{◌≡◌, ℕ, zero, suc, ◌<◌, List, [], ◌∷◌, ◌++◌, map, length, get_or, reverse, sym, refl, subst, arith, inl, inr, ◌⊎◌}
+use Rattle.std.specs.List.{Contains, flat_map, AllByRecursion}
 use Rattle.std.specs.List.Sorted.{IsStrictlySortedBy}
 use Rattle.std.specs.Ordering.{flip_args}
 use Rattle.std.specs.declared.cmp.Ordering.{Ordering}
 use Rattle.std.specs.declared.cmp.Ordering.TheVariants.{Less}
 use Rattle.std.proofs.lemmas.List.{reverse-append}
 use Rattle.alb_mono.specs.Listing.{Each, IsIn, Ascends}
-use Rattle.alb_mono.specs.Types.{rising}
 use Rattle.alb_mono.proofs.ListingLemmas.{each-append, each-weaker, each-map, ascends-append, in-left, in-right}
 
 pub reverse-cons : {X : Type 0} (x : X) (xs : List X) → reverse (x ∷ xs) ≡ reverse xs ++ x ∷ []
@@ -48,10 +47,6 @@ pub ascends-mapped : {X Y : Type 0} (order : Y → Y → Ordering) (f : X → Y)
 ascends-mapped order f [] h = tt
 ascends-mapped order f (x ∷ xs) h = (each-map (λ y. order (f x) y ≡ Less) f xs h.0, ascends-mapped order f xs h.1)
 
-pub each-in : {X : Type 0} (P : X → Type 0) (xs : List X) → ((x : X) → IsIn x xs → P x) → Each P xs
-each-in P [] h = tt
-each-in P (x ∷ xs) h = (h x (inl refl), each-in P xs (λ y m. h y (inr m)))
-
 -- what stands in a list of lists one after the other
 pub in-parts : {X Y : Type 0} (g : X → List Y) (y : Y) (xs : List X) → IsIn y (flat_map g xs) → (x : X) × IsIn x xs × IsIn y (g x)
 in-parts g y [] h = absurd h
@@ -70,19 +65,6 @@ in-mapped f y [] h = absurd h
 in-mapped f y (x ∷ xs) (inl e) = (x, inl refl, e)
 in-mapped f y (x ∷ xs) (inr h) = let w = in-mapped f y xs h in (w.0, inr w.1, w.2)
 
-pub in-run : (k n b : ℕ) → IsIn b (rising k n) → (k ≤ b) × (b < k + n)
-in-run k zero b h = absurd h
-in-run k (suc n) b (inl e) = (omega (arith, e), omega (arith, e))
-in-run k (suc n) b (inr h) = let w = in-run (suc k) n b h in (omega (arith, w.0), omega (arith, w.1))
-
--- a number of a run stands in it
-pub run-in : (k n b : ℕ) → k ≤ b → b < k + n → IsIn b (rising k n)
-run-in k zero b l m = absurd (omega arith)
-run-in k (suc n) b l m = elim (first k b l) [ inl e ↦ inl e | inr h ↦ inr (run-in (suc k) n b h (omega arith)) ]
-  where
-    first : (k b : ℕ) → k ≤ b → (b ≡ k) ⊎ (suc k ≤ b)
-    first k b h = grind arith
-
 -- places
 
 pub in_place : {X : Type 0} (x : X) (xs : List X) → IsIn x xs → (k : ℕ) × (k < length xs) × ((d : X) → get_or xs k d ≡ x)
@@ -94,13 +76,3 @@ pub place_in : (xs : List ℕ) (k : ℕ) → k < length xs → IsIn (get_or xs k
 place_in [] k l = absurd (omega arith)
 place_in (x ∷ xs) zero l = inl refl
 place_in (x ∷ xs) (suc k) l = inr (place_in xs k (omega arith))
-
--- what holds of each element, by places and by elements
-pub each-all : {X : Type 0} (P : X → Type 0) (xs : List X) → All P xs → Each P xs
-each-all P [] h = tt
-each-all P (x ∷ xs) h = (h 0 x (omega arith), each-all P xs (λ k d l. h (suc k) d (omega arith)))
-
-pub all-each : {X : Type 0} (P : X → Type 0) (xs : List X) → Each P xs → All P xs
-all-each P [] h k d l = absurd (omega arith)
-all-each P (x ∷ xs) h zero d l = h.0
-all-each P (x ∷ xs) h (suc k) d l = all-each P xs h.1 k d (omega arith)

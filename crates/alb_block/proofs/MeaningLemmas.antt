@@ -7,7 +7,7 @@ use Rattle.std.specs.Ordering.{flip_args}
 use Rattle.std.specs.declared.cmp.Ordering.TheVariants.{Less}
 use Rattle.std.proofs.lemmas.List.{length-reverse, length-map, get_or_default}
 use Rattle.std.proofs.lemmas.Map.Keys.{Less-from_sorted}
-use Rattle.gf_field.proofs.Mod.{same}
+use Rattle.gf_field.proofs.Mod.{same, ◌⊙◌}
 use Rattle.gf_sums.proofs.Alike.{itself, turned}
 use Rattle.alb_mono.specs.Listing.{Each, IsIn, Ascends}
 use Rattle.alb_mono.specs.Tree.{Tree, leaf, cmp_trees}
@@ -26,21 +26,24 @@ use Rattle.alb_table.specs.Table.{Table, IsTable}
 use Rattle.alb_table.specs.Leading.{IsZeroAt, IsNormal}
 use Rattle.alb_table.specs.Right.{AreHigh, IsBasisTo, IsRight, IsTypeTo, IsWithin}
 use Rattle.alb_table.specs.RightTable.{basis_monos, mono_entry, instance_at}
-use Rattle.alb_table.specs.Block.{InSpan, IsTupleAt, tuple_row, IsColumnAt, IsPivotAt, IsFreeAt, IsEntryAt, ArePivotsAt, AreOriginsAt, AreFreeAt}
-use Rattle.alb_table.specs.Columns.{vector_of, AreColumns, col, HaveSpan}
+use Rattle.alb_table.specs.Block.{InSpan, IsTupleAt, tuple_row, IsColumnAt, IsPivotAt, IsFreeAt, IsEntryAt, ArePivotsAt, AreOriginsAt, AreFreeAt, block_image}
+use Rattle.alb_table.specs.Columns.{vector_of, AreColumns, col, HasElement, HaveSpan}
 use Rattle.alb_table.proofs.Bases.{IsTable as IsTableOver}
 use Rattle.alb_table.proofs.Spans.{span-alike, span-one, span-zero}
 use Rattle.alb_table.proofs.Congruent.{difference-zero}
 use Rattle.alb_poly.specs.Algebra.{unit}
+use Rattle.alb_table.proofs.FirstLemmas.{few_generators}
 use Rattle.alb_table.proofs.GeneratorLemmas.{above_one}
-use Rattle.alb_table.proofs.Right.{right-table, element-columns_at, free-normal, normal-free}
-use Rattle.alb_table.proofs.Columns.{vector-element, pivot-number, number-pivot, column-at, number}
+use Rattle.alb_table.proofs.Right.{right-table, element-columns_at, free-normal, normal-free, image-spans_at, span-image_at}
+use Rattle.alb_table.proofs.Columns.{vector-alike, element-vector, vector-element, pivot-number, number-pivot, column-at, number}
 use Rattle.alb_table.proofs.Block.{number-free, pivot-entry, origins-span}
 use Rattle.alb_subst.specs.Sums.{instance_row}
 use Rattle.alb_block.specs.Instances.{Setting, IsInstance, columns_of, instance_vector, all_instances, listed_instances, AreOrigins}
+use Rattle.alb_block.specs.Laws.{IsImageOf, RowsSpanImages}
 use Rattle.alb_block.specs.Meaning.{column_monos, IsBlockAt}
 use Rattle.alb_block.proofs.ColumnLemmas.{columns-are, columns-in}
-use Rattle.alb_block.proofs.ListLemmas.{in-reverse, each-reverse, descends, sorted-from, contains-in, ascends-mapped, each-in, in_place, place_in}
+use Rattle.alb_table.proofs.TableLemmas.{each-in}
+use Rattle.alb_block.proofs.ListLemmas.{in-reverse, each-reverse, descends, sorted-from, contains-in, ascends-mapped, in_place, place_in}
 use Rattle.alb_block.proofs.InstanceLemmas.{instance-tuple, tuple-instance, HasNumbers, numbers-each, row-monos, row-in, vector-pairs}
 
 -- a span that is equal to one that the rows have is one that they have
@@ -113,6 +116,26 @@ module _ (fs : List Form) (t : Table) (tab : IsTable t) (right : IsRight t.p fs 
       of-number n k = subst (λ m. Vectors.InSpan t.p (all_instances here) (vector_of cols (tuple_row fs entries m))) k.same
           (span_same t.p (all_instances here) (all_instances here (k.number, k.instance)) (vector_of cols (tuple_row fs entries (instance_at t.parts k.number)))
           (λ j. ap (λ n. n % t.p) (sym (row-vector k.number k.instance j))) (span_one t.p (all_instances here) (k.number, k.instance)))
+
+  -- a vector of the span of the instances is that of the image of a consequence
+  rows-image : (v : ℕ → ℕ) → Vectors.InSpan t.p (all_instances here) v → IsImageOf fs t w v
+  rows-image v s =
+      let e : HasElement t.p Named (tuple_row fs entries) cols v = vector-element t.p Named (tuple_row fs entries) Column cols are (all_instances here) all-have columns v s in
+      let i = span-image_at t.p pos fs multi high t.target t.degree tab.started entries over w to ty.degree e.element e.in_span in
+      record {
+        polynomial = i.polynomial;
+        consequence = i.consequence;
+        types = i.types;
+        vector = λ j. e.vector j ⊙ vector-alike cols e.element (block_image entries i.polynomial) i.alike j;
+      }
+
+  -- and the converse
+  image-rows : (v : ℕ → ℕ) → IsImageOf fs t w v → Vectors.InSpan t.p (all_instances here) v
+  image-rows v h =
+      let x : Poly = block_image entries h.polynomial in
+      let s = image-spans_at t.p pos fs multi high t.target t.degree tab.started entries over w to ty.degree h.polynomial h.consequence h.types in
+      span_same t.p (all_instances here) (vector_of cols x) v (λ j. sym (h.vector j).same)
+      (element-vector t.p Named (tuple_row fs entries) Column cols are (all_instances here) all-have columns x s)
 
   module _ (r : Reduction) (spans : SameSpan t.p (kept r) (all_instances here)) where
     have : HaveSpan t.p Named (tuple_row fs entries) cols (kept r)
@@ -213,6 +236,15 @@ module _ (fs : List Form) (t : Table) (tab : IsTable t) (right : IsRight t.p fs 
           entries = λ j l v red e k. pivot-entry t.p pos fs multi high t.target t.degree tab.started entries over w to ty.degree cols are (kept r) have j l v red e k;
           origins = origins-are;
         }
+
+-- THE LAW
+pub rows-span-images : RowsSpanImages
+rows-span-images r t w v h ty =
+    let few = few_generators t.target h.table.goal in
+    let small : length t.target ≤ 26 = omega arith in (
+      rows-image r.forms t h.table h.right.right h.multilinear h.high small w ty v,
+      image-rows r.forms t h.table h.right.right h.multilinear h.high small w ty v,
+    )
 
 -- ---- for the table of the next degree
 

@@ -6,9 +6,8 @@ use Rattle.gf_field.proofs.Mod.{same}
 use Rattle.gf_sums.specs.Sums.{Comb, coefficient}
 use Rattle.alb_mono.specs.Listing.{Each, IsIn}
 use Rattle.alb_mono.proofs.ListingLemmas.{each-weaker, each-append, each-member, in-left, in-right}
-use Rattle.alb_poly.specs.Consequence.{form_at, AreMultilinear}
-use Rattle.alb_linear.specs.Identity.{IsLinearized}
-use Rattle.alb_poly.specs.Instance.{Form, IsMultilinearForm}
+use Rattle.alb_poly.specs.Consequence.{form_at}
+use Rattle.alb_poly.specs.Instance.{Form}
 use Rattle.alb_poly.specs.Rules.{form}
 use Rattle.alb_poly.specs.declared.rules.Linear.{Linear}
 use Rattle.alb_rows.specs.Row.{Cells, ColumnsBelow, entry}
@@ -322,6 +321,3 @@ lacks-all s r k f tuples e a = record {
 pub views-more : (old new : List Origin) (o : Origin) (name : ℕ × List ℕ) → new ≡ old ++ o ∷ [] → origin_view o ≡ name → map origin_view new ≡ map origin_view old ++ name ∷ []
 views-more old new o name e n =
     ap (map origin_view) e ∙ map-append origin_view old (o ∷ []) ∙ ap (λ x. map origin_view old ++ x ∷ []) n
-
-pub forms-multilinear : (p : ℕ) (fs : List Form) → Each (IsLinearized p) fs → AreMultilinear fs
-forms-multilinear p fs h = each-weaker (IsLinearized p) IsMultilinearForm fs (λ f k. k.multilinear) h

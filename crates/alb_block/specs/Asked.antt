@@ -1,9 +1,7 @@
 -- What `reduce_block` is asked, and what it answers.
-use Rattle.std.specs.Prelude.{◌≡◌, ℕ, ◌<◌, ◌≤◌, ◌^◌, List, length, Result, Ok, Err}
-use Rattle.alb_mono.specs.Listing.{Each}
+use Rattle.std.specs.Prelude.{◌≡◌, ℕ, ◌<◌, ◌≤◌, List, length, Result, Ok, Err}
 use Rattle.alb_poly.specs.Rules.{forms}
 use Rattle.alb_poly.specs.declared.rules.Rules.{Rules}
-use Rattle.alb_linear.specs.Identity.{IsLinearized}
 use Rattle.alb_poly.specs.Instance.{Form}
 use Rattle.alb_table.specs.Table.{Table}
 use Rattle.alb_block.specs.Instances.{Setting, columns_of, SpansInstances, AreOrigins}
@@ -18,13 +16,6 @@ setting_of fs table t = record { p = table.p; forms = fs; parts = table.parts; a
 
 abbrev pub setting : Rules → Table → List ℕ → Setting
 setting rules table t = setting_of (forms rules) table t
-
--- the rules have the field of the table, and linearized forms of degree 2 to 8
-pub record AreRules (rules : Rules) (table : Table) : Type 0 where
-  pub linearized : Each (IsLinearized table.p) (forms rules)
-  pub low : Each (λ f. f.degree ≤ 8) (forms rules)
-  pub high : Each (λ f. 2 ≤ f.degree) (forms rules)
-  pub few : length rules.linears.items < 2 ^ 32
 
 -- The block of a type: its products from the greatest to the least, the reduced form of the span of all its instances, and as
 -- many instances as there are pivots, with the same span.

@@ -5,3 +5,4 @@ pub mod Opened
 pub mod Asked
 pub mod Example
 pub mod View
+pub mod Laws

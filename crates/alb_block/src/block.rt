@@ -2,9 +2,9 @@ ghost use Rattle.std.specs.Prelude.{◌≡◌, ◌+◌, ◌<◌, length, map, re
 ghost use Rattle.alb_mono.specs.Types.{IsTypeWithin};
 ghost use Rattle.alb_poly.specs.Rules.{forms};
 ghost use Rattle.alb_table.specs.PartView.{origin_view};
-ghost use Rattle.alb_table.specs.RightTable.{IsRightTable};
+ghost use Rattle.alb_table.specs.RightFor.{rules_view, AreRules, IsRightFor};
 ghost use Rattle.alb_block.specs.Instances.{columns_of};
-ghost use Rattle.alb_block.specs.Asked.{setting, AreRules, Answers};
+ghost use Rattle.alb_block.specs.Asked.{setting, Answers};
 ghost use Rattle.alb_block.specs.Meaning.{IsBlockAt};
 ghost use Rattle.alb_block.specs.Opened.{Opens};
 
@@ -45,18 +45,19 @@ fn open_columns(alloc: Global, tables: &Tables, t: &Multi) -> Result<Columns, Bl
 }
 
 /// The reduced form of the span of all instances of the type `t`, which has one degree more than the table and is at most its
-/// target: `TooWide` exactly where the type has more than 4,096 products. For a right table the columns that are no pivots are
-/// the normal monomials of the type, and the reduced rows give the entries of the others.
+/// target, by a table that is right for the rules: `TooWide` exactly where the type has more than 4,096 products. The columns
+/// that are no pivots are the normal monomials of the type, and the reduced rows give the entries of the others.
 pub fn reduce_block(
     alloc: Global,
     rules: &Rules,
     tables: &Tables,
     t: &Multi,
 ) -> Result<Block, BlockStop>
-    requires rules { AreRules rules.now tables.now }
+    requires rules { AreRules (rules_view rules.now) }
+    requires right { IsRightFor (rules_view rules.now) tables.now }
     requires next { IsTypeWithin tables.now.target (tables.now.degree + 1) t.now }
     ensures answer { Answers (setting rules.now tables.now t.now) result }
-    ensures block { IsRightTable (forms rules.now) tables.now → IfOk result (λ b. IsBlockAt (forms rules.now) tables.now t.now b.reduced (map origin_view b.origins.items)) }
+    ensures block { IfOk result (λ b. IsBlockAt (forms rules.now) tables.now t.now b.reduced (map origin_view b.origins.items)) }
 {
     let columns = open_columns(alloc, tables, t)?;
     let Offers { echelon, origins } = offer_all(alloc, rules, tables, t, &columns)?;

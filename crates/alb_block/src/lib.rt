@@ -5,9 +5,8 @@
 
 mod block;
 mod error;
+pub mod laws;
 mod offers;
-#[cfg(test)]
-mod tests;
 
 pub use block::{Block, reduce_block};
 pub use error::BlockStop;

@@ -7,9 +7,10 @@ ghost use Rattle.alb_linear.specs.Identity.{IsLinearized};
 ghost use Rattle.alb_rows.specs.Row.{ColumnsBelow, IsRowOver};
 ghost use Rattle.alb_reduce.specs.Reduction.{Reduction};
 ghost use Rattle.alb_table.specs.PartView.{origin_view};
+ghost use Rattle.alb_table.specs.RightFor.{rules_view, AreRules, IsRightFor};
 ghost use Rattle.alb_block.specs.Instances.{Setting, IsInstance, columns_of};
 ghost use Rattle.alb_block.specs.Offers.{IsRowOf, AreKept, HasBefore, HasMore};
-ghost use Rattle.alb_block.specs.Asked.{setting, AreRules};
+ghost use Rattle.alb_block.specs.Asked.{setting};
 
 use alb_mono::{Multi, NoMemory};
 use alb_poly::Rules;
@@ -68,7 +69,8 @@ fn offer_form(
     k: u32,
     offers: Offers,
 ) -> Result<Offers, NoMemory>
-    requires rules { AreRules rules.now tables.now }
+    requires rules { AreRules (rules_view rules.now) }
+    requires right { IsRightFor (rules_view rules.now) tables.now }
     requires long { length t.now ≡ length tables.now.target }
     requires within { type_le t.now tables.now.target ≡ true }
     requires columns_are { columns.now ≡ columns_of tables.now.parts t.now }
@@ -96,7 +98,8 @@ pub(crate) fn offer_all(
     t: &Multi,
     columns: &Columns,
 ) -> Result<Offers, NoMemory>
-    requires rules { AreRules rules.now tables.now }
+    requires rules { AreRules (rules_view rules.now) }
+    requires right { IsRightFor (rules_view rules.now) tables.now }
     requires long { length t.now ≡ length tables.now.target }
     requires within { type_le t.now tables.now.target ≡ true }
     requires columns_are { columns.now ≡ columns_of tables.now.parts t.now }

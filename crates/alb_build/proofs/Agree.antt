@@ -1,5 +1,5 @@
 -- The values of the rows of a type stay the same where the entries that they read do.
-use Rattle.std.proofs.Common.{◌≡◌, ℕ, zero, suc, ◌+◌, ◌*◌, ◌<◌, ◌≤◌, List, [], ◌∷◌, ◌++◌, length, get_or, sym, refl, ap, ◌∙◌, subst, arith, sum, inl, inr, ◌⊎◌}
+use Rattle.std.proofs.Common.{◌≡◌, ℕ, zero, suc, ◌+◌, ◌*◌, ◌<◌, ◌≤◌, List, [], ◌∷◌, ◌++◌, length, get_or, sym, refl, ap, ◌∙◌, subst, arith, sum, inl, inr}
 use Rattle.std.specs.List.{flat_map}
 use Rattle.gf_sums.specs.Sums.{Comb, scale, multiply, reindex}
 use Rattle.alb_mono.specs.Listing.{Each}
@@ -18,6 +18,7 @@ use Rattle.alb_table.proofs.Types.{type-itself, type-turned, type-joined, type-n
 use Rattle.alb_table.proofs.Values.{each-multiply}
 use Rattle.alb_table.proofs.Within.{within-same, within-block}
 use Rattle.alb_table.proofs.Right.{of_type-within, of_type-degree, instance-types, tuple_instance}
+use Rattle.std.proofs.lemmas.Bool.{cases_lt}
 
 scale-agree : {K : Type 0} (c : ℕ) (f g : Comb K) → f ≡ g → scale c f ≡ scale c g
 scale-agree c f g e = ap (scale c) e
@@ -32,10 +33,6 @@ multiply-agree {I} {J} {K} P Q prod prod' (s ∷ f) g h a b = rw (row g b, multi
     row [] b = refl
     row (t ∷ g) b = rw (h s.1 t.1 a.0 b.0, row g b.1) refl
 
--- a position that has a monomial, or none
-place-cases : (k n : ℕ) → (k < n) ⊎ (n ≤ k)
-place-cases k n = grind arith
-
 get-past : (ms : List Tree) (k : ℕ) (d : Tree) → length ms ≤ k → get_or ms k d ≡ d
 get-past [] k d l = refl
 get-past (m ∷ ms) zero d l = absurd (omega arith)
@@ -48,7 +45,7 @@ module _ (p : ℕ) (fs : List Form) (Within Basis : Tree → Type 0) (entry entr
 
   -- what the value of a monomial at basis monomials is a combination of
   value-parts : (m : Tree) → Within (fill ms m) → Each (λ t. IsPart Basis (fill ms m) t.1) (evaluate entry at_places m)
-  value-parts (leaf k) w = elim (place-cases k (length ms)) [
+  value-parts (leaf k) w = elim (cases_lt k (length ms)) [
     | inl l ↦ (record { basis = each-at Basis ms k (leaf k) basis l; type = type-itself (get_or ms k (leaf k)) }, tt)
     | inr g ↦ (
         let e : get_or ms k (leaf k) ≡ leaf k = get-past ms k (leaf k) g in

@@ -11,10 +11,11 @@ use Rattle.alb_table.specs.End.{End, Complete, TooWide, TooManyProducts, TooMany
 use Rattle.alb_table.specs.Limits.{next_types, next_products, wide, most_of_type, most_products, most_coefficients}
 use Rattle.alb_table.specs.PartView.{PartView, elems}
 use Rattle.alb_table.specs.Right.{AreHigh}
+use Rattle.alb_table.specs.RightFor.{RulesView, IsRightFor}
 use Rattle.alb_table.specs.RightTable.{IsRightTable}
 use Rattle.alb_table.specs.Table.{Table, IsTable, count_coefficients, extended, first_table}
-use Rattle.alb_table.proofs.FirstLemmas.{few_generators, first_is_table}
-use Rattle.alb_table.proofs.FirstRight.{first-right-table}
+use Rattle.alb_table.proofs.FirstLemmas.{few_generators}
+use Rattle.alb_table.proofs.RightForLemmas.{right-extended, first-right-for}
 use Rattle.alb_build.specs.Laws.{HasEnd, EachEnds}
 use Rattle.alb_build.proofs.CellCounts.{coefficients-append}
 use Rattle.alb_build.proofs.Counts.{made-count}
@@ -97,24 +98,15 @@ module _ (fs : List Form) (multi : AreMultilinear fs) (high : AreHigh fs) (t : T
       ]
 
 -- the building ends, from a table that is k degrees below its target
-ends-from : (fs : List Form) → AreMultilinear fs → AreHigh fs → (k : ℕ) (t : Table) → t.degree + k ≡ sum t.target → IsTable t → IsRightTable fs t → HasEnd t.p t.target fs
-ends-from fs multi high zero t e tab right = record {
-  table = t;
-  end = Complete;
-  is_table = tab;
-  field = refl;
-  goal = refl;
-  right = right;
-  ends = (let z : t.degree ≡ sum t.target = omega arith in z);
-}
-ends-from fs multi high (suc k) t e tab right = elim (next-or-end fs multi high t tab right (omega arith)) [
-  | inl h ↦ record { table = t; end = h.end; is_table = tab; field = refl; goal = refl; right = right; ends = h.ends }
-  | inr h ↦ ends-from fs multi high k (extended t h.parts) (omega arith) h.table h.right
+ends-from : (r : RulesView) (k : ℕ) (t : Table) → t.degree + k ≡ sum t.target → IsRightFor r t → HasEnd r
+ends-from r zero t e h = record { table = t; end = Complete; right = h; ends = (let z : t.degree ≡ sum t.target = omega arith in z) }
+ends-from r (suc k) t e h = elim (next-or-end r.forms h.multilinear h.high t h.table h.right (omega arith)) [
+  | inl n ↦ record { table = t; end = n.end; right = h; ends = n.ends }
+  | inr n ↦ ends-from r k (extended t n.parts) (omega arith) (right-extended r t n.parts h n.table n.right)
 ]
 
 -- THE LAW
 pub each-ends : EachEnds
-each-ends p target fs prime goal multi high =
-    let tab : IsTable (first_table p target) = first_is_table p target prime goal in
-    let some : 0 < sum target = goal.some in
-    ends-from fs multi high (sum target - 1) (first_table p target) (omega arith) tab (first-right-table p target prime goal fs multi high)
+each-ends r prime goal multi high =
+    let some : 0 < sum r.target = goal.some in
+    ends-from r (sum r.target - 1) (first_table r.p r.target) (omega arith) (first-right-for r prime goal multi high)

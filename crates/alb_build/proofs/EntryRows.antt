@@ -8,7 +8,8 @@ use Rattle.std.proofs.Math.Nat.{mod-eq_of_lt}
 use Rattle.std.proofs.lemmas.List.{get_or_append_left, get_or-append_right}
 use Rattle.alb_mono.proofs.ListingLemmas.{each-append}
 use Rattle.alb_rows.proofs.RowLemmas.{row_tail, tail_later, head_entry, entry_found}
-use Rattle.alb_block.proofs.ListLemmas.{reverse-cons, each-reverse, each-all}
+use Rattle.alb_linear.proofs.LinearLemmas.{each_from_all}
+use Rattle.alb_block.proofs.ListLemmas.{reverse-cons, each-reverse}
 use Rattle.alb_mono.specs.Listing.{Each}
 use Rattle.alb_rows.specs.Row.{Cells, entry, IsRow, IsRowOver, ColumnsBelow, LeadsWith}
 use Rattle.alb_rows.specs.Span.{IsPivot, IsReducedRow}
@@ -85,7 +86,7 @@ descend-push (y ∷ ys) x d a = (each-append (λ e. e.0 < y.0) ys (x ∷ []) d.0
 descend-row : (xs : Cells) → IsRow xs → Descend (reverse xs)
 descend-row [] h = tt
 descend-row (x ∷ xs) h = rw (reverse-cons x xs)
-    (descend-push (reverse xs) x (descend-row xs (row_tail x xs h)) (each-reverse (λ d. x.0 < d.0) xs (each-all (λ d. x.0 < d.0) xs (tail_later x xs h))))
+    (descend-push (reverse xs) x (descend-row xs (row_tail x xs h)) (each-reverse (λ d. x.0 < d.0) xs (each_from_all (λ d. x.0 < d.0) xs (tail_later x xs h))))
 
 -- the first cell stands at the pivot or behind it
 pub lead-first : (column : ℕ) (x : ℕ × ℕ) (xs : Cells) → IsRow (x ∷ xs) → LeadsWith (x ∷ xs) (column, 1) → column ≤ x.0

@@ -1,5 +1,5 @@
 -- A right table has at most as many basis elements as generators and products.
-use Rattle.std.proofs.Common.{◌≡◌, ℕ, zero, suc, ◌⊎◌, ◌+◌, ◌<◌, ◌≤◌, Bool, true, false, ◌||◌, List, [], ◌∷◌, ◌++◌, map, length, get_or, sym, refl, ap, ◌∙◌, subst, arith, inl, inr, length-append}
+use Rattle.std.proofs.Common.{◌≡◌, ℕ, zero, suc, ◌+◌, ◌<◌, ◌≤◌, Bool, true, false, ◌||◌, List, [], ◌∷◌, ◌++◌, map, length, get_or, sym, refl, ap, ◌∙◌, subst, arith, inl, inr, length-append}
 use Rattle.std.specs.Prelude.{Some, slice_get}
 use Rattle.std.specs.Cmp.{IsEquivalence}
 use Rattle.std.specs.List.{flat_map, list_any}
@@ -13,6 +13,7 @@ use Rattle.alb_mono.proofs.ListingLemmas.{each-at, each-append, each-member, eac
 use Rattle.alb_poly.specs.Instance.{Form}
 use Rattle.alb_poly.proofs.Consequence.{tree_tells}
 use Rattle.alb_table.specs.Entry.{products}
+use Rattle.alb_table.proofs.FirstLemmas.{length-rising}
 use Rattle.alb_table.specs.PartView as View
 use Rattle.alb_table.specs.PartView.{PartView, elems, monos, mono_at}
 use Rattle.alb_table.specs.declared.part.Elem.{Elem}
@@ -23,6 +24,7 @@ use Rattle.alb_table.specs.Table.{Table, IsTable, IsPartOf, IsElementOf, Generat
 use Rattle.alb_table.proofs.GridLemmas.{get_some}
 use Rattle.alb_table.proofs.MonoLemmas.{elem_generator, mono_step}
 use Rattle.alb_table.proofs.RightTables.{length-monos, numbered}
+use Rattle.alb_table.proofs.TypesTo.{in-rising}
 
 -- ---- trees that are the same
 
@@ -96,20 +98,6 @@ elements-made p ps (q ∷ qs) e =
     (each-weaker (IsMade ps (product_monos ps qs)) (IsMade ps (product_monos ps (q ∷ qs))) (elems qs) (made-later ps front (product_monos ps qs)) (elements-made p ps qs e.1))
 
 -- ---- generators
-
-in-rising : (k n j : ℕ) → k ≤ j → j < k + n → IsIn j (rising k n)
-in-rising k zero j l h = absurd (omega arith)
-in-rising k (suc n) j l h = elim (first_or_later k j l) [
-  | inl e ↦ inl (sym e)
-  | inr m ↦ inr (in-rising (suc k) n j m (omega arith))
-]
-  where
-    first_or_later : (k j : ℕ) → k ≤ j → (k ≡ j) ⊎ (suc k ≤ j)
-    first_or_later k j l = grind arith
-
-length-rising : (k n : ℕ) → length (rising k n) ≡ n
-length-rising k zero = refl
-length-rising k (suc n) = omega (arith, length-rising (suc k) n)
 
 each-indexed : (P : Tree → Type 0) (xs : List Tree) → ((i : ℕ) → i < length xs → P (get_or xs i (leaf 0))) → Each P xs
 each-indexed P [] h = tt

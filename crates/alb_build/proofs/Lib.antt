@@ -8,7 +8,6 @@ pub mod KeptParts
 pub mod Steps
 pub mod Growing
 pub mod Blocks
-pub mod First
 pub mod Wide
 pub mod NewParts
 pub mod NewBases

@@ -25,7 +25,8 @@ use Rattle.alb_table.proofs.GridLemmas.{get_some}
 use Rattle.alb_table.proofs.RangeLemmas.{range_within, product_of, type_of_range}
 use Rattle.alb_table.proofs.RightTables.{length-monos}
 use Rattle.alb_block.specs.Meaning.{column_monos}
-use Rattle.alb_block.proofs.ListLemmas.{each-in, sorted-from}
+use Rattle.alb_table.proofs.TableLemmas.{each-in}
+use Rattle.alb_block.proofs.ListLemmas.{sorted-from}
 use Rattle.alb_block.proofs.MeaningLemmas.{block-basis}
 use Rattle.alb_build.proofs.Blocks.{free_monos, free-each, free-ascends, free-contains, run-monos, map-elements, col-place}
 use Rattle.alb_build.proofs.KeptParts.{mono-kept}

@@ -7,7 +7,7 @@ use Rattle.std.proofs.lemmas.Bool.Decides.{nat_tests}
 use Rattle.std.proofs.lemmas.Cmp.{tied_itself}
 use Rattle.gf_sums.specs.Sums.{Comb, reindex}
 use Rattle.alb_mono.specs.Listing.{Each, IsIn}
-use Rattle.alb_mono.specs.Tree.{Tree, cmp_trees, same_tree}
+use Rattle.alb_mono.specs.Tree.{Tree, cmp_trees}
 use Rattle.alb_mono.proofs.Order.{cmp_trees_total}
 use Rattle.alb_rows.specs.Row.{Cells}
 use Rattle.alb_table.specs.Grid.{find_entry, same_pair}
@@ -19,7 +19,7 @@ use Rattle.alb_table.specs.PartView as View
 use Rattle.alb_table.specs.PartView.{PartView, elems, type_at, entries_at, monos, mono_at}
 use Rattle.alb_table.specs.Entry.{products, entry_of}
 use Rattle.alb_table.specs.Table.{Table, IsTable, extended}
-use Rattle.alb_table.specs.Right.{IsRight, place_of}
+use Rattle.alb_table.specs.Right.{IsRight}
 use Rattle.alb_table.specs.RightTable.{basis_monos, mono_entry}
 use Rattle.alb_table.proofs.PartLemmas.{products-extend}
 use Rattle.alb_table.proofs.RangeLemmas.{product_of, type_of_range}
@@ -28,14 +28,7 @@ use Rattle.alb_build.proofs.KeptParts.{type-kept}
 use Rattle.alb_build.proofs.Numbering.{before, before-less, length-elements, length-numbers, element-at}
 use Rattle.alb_build.proofs.NewBases.{pair_mono, pair-kept, step, cols, free-long, ascends}
 use Rattle.alb_build.proofs.Places.{HasPart}
-
--- the place of an older monomial
-pub place-longer : (ms news : List Tree) (x : Tree) → place_of ms x < length ms → place_of (ms ++ news) x ≡ place_of ms x
-place-longer [] news x h = absurd (omega arith)
-place-longer (m ∷ ms) news x h = elim (cases_Bool (same_tree m x)) [
-  | inl e ↦ rw e
-  | inr e ↦ rw e (ap suc (place-longer ms news x (let k : suc (place_of ms x) < suc (length ms) = rw e at h in omega arith)))
-]
+use Rattle.alb_subst.proofs.SumLemmas.{pair-sound}
 
 -- the entry of a product that stands nowhere before
 pub find-at : (xs : List (ℕ × ℕ)) (es : List Cells) (k : ℕ) → k < length xs → length es ≡ length xs →
@@ -49,13 +42,6 @@ find-at (x ∷ xs) (c ∷ es) zero l e h = rw (itself x) refl
 find-at (x ∷ xs) (c ∷ es) (suc k) l e h =
     let f : same_pair x (get_or xs k (0, 0)) ≡ false = h 0 (omega arith) in
     rw f (find-at xs es k (omega arith) (omega arith) (λ i m. h (suc i) (omega arith)))
-
--- pairs that are equal by test are equal
-pub pair-sound : (x y : ℕ × ℕ) → same_pair x y ≡ true → x ≡ y
-pair-sound x y h =
-    let a : x.0 ≡ y.0 = grind (arith, nat_tests) in
-    let b : x.1 ≡ y.1 = grind (arith, nat_tests) in
-    ap (λ n. (n, x.1)) a ∙ ap (λ n. (y.0, n)) b
 
 -- what ascends differs
 pub less-differs : (f : ℕ × ℕ → Tree) (x y : ℕ × ℕ) → cmp_trees (f x) (f y) ≡ Less → same_pair x y ≡ false

@@ -16,10 +16,11 @@ use Rattle.alb_reduce.specs.Reduction.{Reduction, kept}
 use Rattle.alb_table.specs.PartView.{PartView, first_of, dim_of, elems}
 use Rattle.alb_table.specs.Entry.{products}
 use Rattle.alb_table.specs.Table.{Table, IsElementOf, IsPartOf, IsRowAmong}
-use Rattle.alb_table.proofs.PartLemmas.{list_eq-itself, list_eq-other}
+use Rattle.alb_linear.proofs.IdentityLemmas.{list_eq-itself}
+use Rattle.alb_table.proofs.PartLemmas.{list_eq-other}
 use Rattle.alb_table.proofs.TypesTo.{apart}
 use Rattle.alb_block.specs.View.{BlockView}
-use Rattle.alb_block.proofs.ListLemmas.{each-in}
+use Rattle.alb_table.proofs.TableLemmas.{each-in}
 use Rattle.alb_build.specs.Part.{AreFree, IsNewEntry, IsPartMade, ArePartsOf, numbers_from}
 use Rattle.alb_build.specs.Next.{IsNextBlock, AreBlocks}
 use Rattle.alb_build.proofs.Numbering.{before, length-numbers, number-at, before-less, length-elements, elements-in}

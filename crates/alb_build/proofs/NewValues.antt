@@ -31,7 +31,8 @@ use Rattle.alb_build.proofs.EntryRows.{IsFreeCell, cells-free, free-full}
 use Rattle.alb_build.proofs.KeptParts.{monos-kept}
 use Rattle.alb_build.proofs.Numbering.{before, length-numbers, number-at}
 use Rattle.alb_build.proofs.NewBases.{pair_mono, free-long, long, place-is, no-pivot, wide_is}
-use Rattle.alb_build.proofs.NewEntries.{place-longer, reindex-agree, reindex-twice, free-mono, entry-found, pair-in}
+use Rattle.alb_table.proofs.Numbers.{place-append}
+use Rattle.alb_build.proofs.NewEntries.{reindex-agree, reindex-twice, free-mono, entry-found, pair-in}
 use Rattle.alb_build.proofs.Places.{HasPart}
 
 module _ (fs : List Form) (t : Table) (new : List PartView) (old : IsTable t) (tab : IsTable (extended t new)) (pos : 0 < t.p)
@@ -50,7 +51,7 @@ module _ (fs : List Form) (t : Table) (new : List PartView) (old : IsTable t) (t
       let r = monos-kept t.parts new in
       let n : b < length (monos t.parts) = omega (arith, l, length-monos t.parts) in
       let e : place_of (monos t.parts) (mono_at t.parts b) ≡ b = place-mono (monos t.parts) b (numbered fs t old right).different n in
-      ap (λ ms. place_of ms (mono_at t.parts b)) r.1 ∙ place-longer (monos t.parts) r.0 (mono_at t.parts b) (omega arith) ∙ e
+      ap (λ ms. place_of ms (mono_at t.parts b)) r.1 ∙ place-append (monos t.parts) r.0 (mono_at t.parts b) (omega arith) ∙ e
 
   -- the entry over monomials
   entry-value : (k : ℕ) → k < length P →

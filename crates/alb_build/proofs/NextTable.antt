@@ -20,7 +20,7 @@ use Rattle.alb_poly.specs.Consequence.{AreMultilinear}
 use Rattle.alb_table.specs.Block.{AreOriginsAt}
 use Rattle.alb_table.specs.Right.{AreHigh, IsTypeTo}
 use Rattle.alb_table.specs.Limits.{next_types, next_products, most_products, most_coefficients}
-use Rattle.alb_block.proofs.ListLemmas.{each-all}
+use Rattle.alb_linear.proofs.LinearLemmas.{each_from_all}
 use Rattle.alb_poly.proofs.Multilinear.{each-from}
 use Rattle.alb_build.proofs.Growing.{origins-stay}
 use Rattle.alb_build.proofs.Grown.{table-big, grown-products}
@@ -86,7 +86,7 @@ made-known fs t (w ∷ ws) [] qs n a m = absurd a
 made-known fs t (w ∷ ws) (b ∷ bs) [] n a m = absurd m
 made-known fs t (w ∷ ws) (b ∷ bs) (q ∷ qs) n a m = (
   subst (λ os. Each (λ (o : ℕ × List ℕ). Each (λ b. b < length (elems t.parts)) o.1) os) (sym m.0.origins)
-      (each-from _ _ b.origins (λ o i. each-all (λ b. b < length (elems t.parts)) o.1 i.tuple.numbers) a.0.block.origins.are),
+      (each-from _ _ b.origins (λ o i. each_from_all (λ b. b < length (elems t.parts)) o.1 i.tuple.numbers) a.0.block.origins.are),
   made-known fs t ws bs qs (n + length q.basis) a.1 m.1,
 )
 
@@ -119,7 +119,7 @@ module _ (fs : List Form) (t : Table) (bs : List BlockView) (new : List PartView
       let names : List (ℕ × List ℕ) = h.block.origins in
       let k : origins_at (t.parts ++ new) w ≡ names = h.origins_are ∙ h.made.origins in
       let n : Each (λ (o : ℕ × List ℕ). Each (λ b. b < length (elems t.parts)) o.1) names =
-      each-from _ _ names (λ o i. each-all (λ b. b < length (elems t.parts)) o.1 i.tuple.numbers) h.is_block.block.origins.are in
+      each-from _ _ names (λ o i. each_from_all (λ b. b < length (elems t.parts)) o.1 i.tuple.numbers) h.is_block.block.origins.are in
       let d : t.degree ≡ sum w - 1 = omega arith in
       let f : map (instance_at (t.parts ++ new)) (origins_at (t.parts ++ new) w) ≡ map (instance_at t.parts) names =
       ap (map (instance_at (t.parts ++ new))) k ∙ instances-kept t.parts new names n in
@@ -135,6 +135,8 @@ module _ (fs : List Form) (t : Table) (bs : List BlockView) (new : List PartView
       | inr l ↦ old-origins w long c l two
       | inl l ↦ (let s : sum w ≤ t.degree + 1 = c.degree_le in new-origins w long c (omega arith) two)
     ];
+    no_origins = λ w l. (let some : 0 < t.degree = old.started in
+        origins-kept new t.degree (next-degrees fs t bs new old tab pos a m) t.parts w (omega arith) ∙ right.no_origins w l);
     known = each-append (NamesBelow (length (elems (t.parts ++ new)))) t.parts new
         (names-weaker (length (elems t.parts)) (length (elems (t.parts ++ new))) t.parts (more-elems t.parts new) right.known)
         (names-weaker (length (elems t.parts)) (length (elems (t.parts ++ new))) new (more-elems t.parts new) (made-known fs t (next_types t) bs new (length (elems t.parts)) a m));

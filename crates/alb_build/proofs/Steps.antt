@@ -6,11 +6,7 @@ use Rattle.alb_rows.specs.Row.{Cells}
 use Rattle.alb_table.specs.declared.part.Elem.{Elem}
 use Rattle.alb_table.specs.declared.part.Elem.TheVariants.{Prod}
 use Rattle.alb_build.specs.Part.{elements_of, IsNegatedCell, AreNegated}
-
-get_of_some : {X : Type 0} (xs : List X) (i : ℕ) (x d : X) → slice_get xs i ≡ Some x → get_or xs i d ≡ x
-get_of_some [] i x d h = absurd (cc)
-get_of_some (y ∷ xs) zero x d h = let q : Some y ≡ Some x = h in cc
-get_of_some (y ∷ xs) (suc i) x d h = get_of_some xs i x d h
+use Rattle.alb_table.proofs.MonoLemmas.{get_of_some}
 
 -- ---- the negated cells
 

@@ -2,9 +2,9 @@
 use Rattle.std.specs.Prelude.{◌≡◌, ℕ, ◌<◌, ◌≤◌, List, [], ◌∷◌, Result, Ok, Err, Some}
 use Rattle.alb_poly.specs.Instance.{Form}
 use Rattle.alb_table.specs.PartView.{PartView}
-use Rattle.alb_table.specs.Table.{Table, IsTable, extended}
+use Rattle.alb_table.specs.Table.{Table, extended}
 use Rattle.alb_table.specs.Limits.{next_types, wide, next_products, most_products, most_coefficients}
-use Rattle.alb_table.specs.RightTable.{IsRightTable}
+use Rattle.alb_table.specs.RightFor.{RulesView, IsRightFor}
 use Rattle.alb_table.specs.End.{NextHas, IsEnd, end_of, first_wide}
 use Rattle.alb_block.specs.Asked.{setting_of, IsBlock}
 use Rattle.alb_block.specs.Meaning.{IsBlockAt}
@@ -28,12 +28,11 @@ AreBlocks fs t [] (b ∷ bs) = ⊥
 AreBlocks fs t (w ∷ ws) [] = ⊥
 AreBlocks fs t (w ∷ ws) (b ∷ bs) = IsNextBlock fs t w b × AreBlocks fs t ws bs
 
--- `u` is the table `t` with the parts of one more degree, and right for the forms
-pub record IsGrown (fs : List Form) (t u : Table) : Type 0 where
+-- `u` is the table `t` with the parts of one more degree, and right for the rules
+pub record IsGrown (r : RulesView) (t u : Table) : Type 0 where
   pub parts : List PartView
   pub extends : u ≡ extended t parts
-  pub table : IsTable u
-  pub right : IsRightTable fs u
+  pub right : IsRightFor r u
 
 -- the table of the next degree would have `n` products, too many
 pub record PassesProducts (t : Table) (n : ℕ) : Type 0 where
@@ -47,11 +46,11 @@ pub record PassesCoefficients (fs : List Form) (t : Table) (n : ℕ) : Type 0 wh
   pub many : most_coefficients < n
 
 -- WHAT GROWING ANSWERS: the right table of the next degree, or the first limit that it passes
-abbrev pub GrowsTo : List Form → Table → Result Table GrowStop → Type 0
-GrowsTo fs t (Ok u) = IsGrown fs t u
-GrowsTo fs t (Err (TooManyProducts n)) = PassesProducts t n
-GrowsTo fs t (Err (TooManyCoefficients n)) = PassesCoefficients fs t n
-GrowsTo fs t (Err NoMemory) = Unit {0}
+abbrev pub GrowsTo : RulesView → Table → Result Table GrowStop → Type 0
+GrowsTo r t (Ok u) = IsGrown r t u
+GrowsTo r t (Err (TooManyProducts n)) = PassesProducts t n
+GrowsTo r t (Err (TooManyCoefficients n)) = PassesCoefficients r.forms t n
+GrowsTo r t (Err NoMemory) = Unit {0}
 
 -- the first type that has too many products for a block
 pub record IsFirstWide (t : Table) (w : List ℕ) (n : ℕ) : Type 0 where
@@ -64,6 +63,6 @@ IsWideStop t (blocks.TooWide w n) = IsFirstWide t w n
 IsWideStop t blocks.NoMemory = Unit {0}
 
 -- the table grows, or this is its end
-abbrev pub StepsTo : List Form → Table → Step → Type 0
-StepsTo fs t (Grown u) = IsGrown fs t u
-StepsTo fs t (Ended e) = IsEnd fs t (end_of e)
+abbrev pub StepsTo : RulesView → Table → Step → Type 0
+StepsTo r t (Grown u) = IsGrown r t u
+StepsTo r t (Ended e) = IsEnd r.forms t (end_of e)

@@ -1,14 +1,12 @@
 //! The sizes of blocks and parts.
-ghost use Rattle.std.specs.Prelude.{◌≡◌, ◌<◌, ◌^◌, length, map};
-ghost use Rattle.gf_sums.specs.Sums.{total};
+ghost use Rattle.std.specs.Prelude.{◌≡◌, ◌<◌, ◌^◌, map};
 ghost use Rattle.alb_table.specs.PartView.{part_view};
 ghost use Rattle.alb_table.specs.Table.{count_coefficients};
 ghost use Rattle.alb_block.specs.View.{block_view};
 ghost use Rattle.alb_build.specs.Part.{count_columns};
 
 use alb_block::Block;
-use alb_rows::Row;
-use alb_table::Part;
+use alb_table::{Part, count_cells};
 
 // The number of the products of blocks.
 pub(crate) fn count_products(blocks: &[Block]) -> u64
@@ -18,18 +16,6 @@ pub(crate) fn count_products(blocks: &[Block]) -> u64
     let mut count = 0;
     for block in blocks {
         count += u64::from(block.columns.len());
-    }
-    count
-}
-
-// The number of the cells of rows.
-fn count_cells(rows: &[Row]) -> u64
-    requires { total (λ cells. length cells) rows.now < 2 ^ 64 }
-    ensures { result ≡ total (λ cells. length cells) rows.now }
-{
-    let mut count = 0;
-    for row in rows {
-        count += row.cells().len() as u64;
     }
     count
 }

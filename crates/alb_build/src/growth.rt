@@ -1,8 +1,7 @@
 ghost use Rattle.std.specs.Prelude.{◌<◌, sum, map};
 ghost use Rattle.alb_poly.specs.Rules.{forms};
 ghost use Rattle.alb_table.specs.Limits.{next_types};
-ghost use Rattle.alb_table.specs.RightTable.{IsRightTable};
-ghost use Rattle.alb_block.specs.Asked.{AreRules};
+ghost use Rattle.alb_table.specs.RightFor.{rules_view, IsRightFor};
 ghost use Rattle.alb_block.specs.View.{block_view};
 ghost use Rattle.alb_build.specs.Next.{AreBlocks, GrowsTo};
 
@@ -29,11 +28,10 @@ pub fn grow(
     tables: &Tables,
     blocks: Vec<Block>,
 ) -> Result<Tables, GrowStop>
-    requires rules { AreRules rules.now tables.now }
+    requires right { IsRightFor (rules_view rules.now) tables.now }
     requires room { tables.now.degree < sum tables.now.target }
-    requires right { IsRightTable (forms rules.now) tables.now }
     requires blocks { AreBlocks (forms rules.now) tables.now (next_types tables.now) (map block_view blocks.items) }
-    ensures { GrowsTo (forms rules.now) tables.now result }
+    ensures { GrowsTo (rules_view rules.now) tables.now result }
 {
     prove!(tables.degree() > 0);
     let products = tables.products() + count_products(&blocks);

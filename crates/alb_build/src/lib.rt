@@ -15,6 +15,3 @@ mod stop;
 pub use build::{Built, build_all};
 pub use growth::grow;
 pub use stop::GrowStop;
-
-#[cfg(test)]
-mod tests;

@@ -2,8 +2,7 @@
 ghost use Rattle.std.specs.Prelude.{◌≡◌, ◌<◌, ◌++◌, [], ◌∷◌, map, sum, IfOk, IfErr, OnOk};
 ghost use Rattle.alb_poly.specs.Rules.{forms};
 ghost use Rattle.alb_table.specs.Limits.{next_types};
-ghost use Rattle.alb_table.specs.RightTable.{IsRightTable};
-ghost use Rattle.alb_block.specs.Asked.{AreRules};
+ghost use Rattle.alb_table.specs.RightFor.{rules_view, AreRules, IsRightFor};
 ghost use Rattle.alb_block.specs.View.{block_view};
 ghost use Rattle.alb_build.specs.Next.{AreBlocks, IsWideStop, StepsTo};
 
@@ -32,8 +31,8 @@ fn push_block(blocks: &mut Vec<Block>, block: Block) -> Result<(), NoMemory>
 
 // The blocks of all types of the next degree, in order.
 fn next_blocks(alloc: Global, rules: &Rules, tables: &Tables) -> Result<Vec<Block>, BlockStop>
-    requires rules { AreRules rules.now tables.now }
-    requires right { IsRightTable (forms rules.now) tables.now }
+    requires rules { AreRules (rules_view rules.now) }
+    requires right { IsRightFor (rules_view rules.now) tables.now }
     ensures blocks { IfOk result (λ v. AreBlocks (forms rules.now) tables.now (next_types tables.now) (map block_view v.items)) }
     ensures wide { IfErr result (IsWideStop tables.now) }
 {
@@ -50,10 +49,10 @@ fn next_blocks(alloc: Global, rules: &Rules, tables: &Tables) -> Result<Vec<Bloc
 
 // One degree more, or the end.
 pub(crate) fn next_step(alloc: Global, rules: &Rules, tables: &Tables) -> Result<Step, NoMemory>
-    requires rules { AreRules rules.now tables.now }
+    requires rules { AreRules (rules_view rules.now) }
+    requires right { IsRightFor (rules_view rules.now) tables.now }
     requires room { tables.now.degree < sum tables.now.target }
-    requires right { IsRightTable (forms rules.now) tables.now }
-    ensures { IfOk result (StepsTo (forms rules.now) tables.now) }
+    ensures { IfOk result (StepsTo (rules_view rules.now) tables.now) }
 {
     let blocks = match next_blocks(alloc, rules, tables) {
         Ok(blocks) => blocks,

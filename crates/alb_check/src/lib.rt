@@ -8,8 +8,6 @@ mod product;
 mod raw;
 mod shape;
 mod sub;
-#[cfg(test)]
-mod tests;
 mod value;
 mod walk;
 

@@ -5,8 +5,6 @@ mod check;
 mod error;
 pub mod laws;
 mod line;
-#[cfg(test)]
-mod tests;
 mod types;
 mod values;
 

@@ -15,8 +15,6 @@ mod read;
 mod said;
 mod skip;
 mod table;
-#[cfg(test)]
-mod tests;
 mod words;
 
 pub use basis::write_table;

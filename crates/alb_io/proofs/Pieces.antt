@@ -10,7 +10,7 @@ use Rattle.alb_io.specs.declared.feeder.Feeder.{Feeder}
 use Rattle.alb_io.specs.declared.feeder.Gathered.{Gathered}
 use Rattle.alb_io.specs.declared.step.LineStep.{LineStep}
 use Rattle.alb_io.specs.declared.step.LineStep.TheVariants as step
-use Rattle.alb_io.proofs.LineLemmas.{HasNoFeed-append}
+use Rattle.alb_io.proofs.LineLemmas.{HasNoFeed-append, true_is_not}
 
 -- so far these bytes were taken, and all went to the line but what is held
 pub record Piecing (old new : Feeder) (g : Gathered) (before now : Option (List ℕ)) : Type 0 where
@@ -24,9 +24,6 @@ pub record Piecing (old new : Feeder) (g : Gathered) (before now : Option (List 
   pub at_end : old.at_end ≡ true → (got ≡ []) × (new.at_end ≡ true)
   pub seen : new.at_end ≡ true → (old.at_end ≡ true) ⊎ (IsAtEnd now × (0 < new.room))
   pub lazy : Lazily (held_of old) got
-
-true_is_not : true ≡ false → ⊥
-true_is_not e = cc
 
 pub Piecing-start : (f : Feeder) (g : Gathered) (before : Option (List ℕ)) → IsGathered [] g → Piecing f f g before before
 Piecing-start f g before empty = record {

@@ -8,6 +8,7 @@ use Rattle.alb_io.specs.Reader.{Reader, Reads, IsFirst}
 use Rattle.alb_io.specs.Reading.{HasRead, IsAll, Reading, TakesLines}
 use Rattle.alb_io.specs.declared.step.LineStep.{LineStep}
 use Rattle.alb_io.specs.declared.step.LineStep.TheVariants as step
+use Rattle.alb_io.proofs.LineLemmas.{true_is_not}
 
 no_feed_test : (b : ℕ) → b ≢ 10 → eqb b 10 ≡ false
 no_feed_test b ne = search (rules, arith)
@@ -80,9 +81,6 @@ IsAll-at_end : (first now : Option (List ℕ)) (taken : List ℕ) → Consumes f
 IsAll-at_end None now taken p end = tt
 IsAll-at_end (Some x) None taken p end = absurd p
 IsAll-at_end (Some x) (Some y) taken p end = p ∙ ap (λ l. taken ++ l) end ∙ append-nil taken
-
-true_is_not : true ≡ false → ⊥
-true_is_not e = cc
 
 either_end : (b : Bool) → (b ≡ true) ⊎ (b ≡ false)
 either_end true = inl refl

@@ -12,7 +12,8 @@ use Rattle.alb_lex.specs.declared.token.TokenKind.{TokenKind}
 use Rattle.alb_lex.specs.declared.token.TokenKind.TheVariants as kinds
 use Rattle.alb_lex.specs.declared.error.LexError.{LexError}
 use Rattle.alb_lex.specs.declared.error.LexError.TheVariants as errors
-use Rattle.alb_lex.specs.Lexing.{is_blank, single, run, value_after, single_at, begins, tokens_from, ◌>>=◌}
+use Rattle.alb_lex.specs.Lexing.{is_blank, single, run, value_after, single_at, begins, tokens_from}
+use Rattle.alb_lex.specs.Results.{◌>>=◌}
 
 abbrev pub onto : List Token → Result (List Token) LexError → Result (List Token) LexError
 onto front read = read >>= λ ts. Ok (front ++ ts)

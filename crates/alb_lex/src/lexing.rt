@@ -1,16 +1,11 @@
 ghost use Rattle.std.specs.Prelude.{◌≡◌, ◌+◌, ◌<◌, ◌≤◌, ◌^◌, false, length, drop, [], ◌∷◌};
 ghost use Rattle.std.specs.Char.{is_ascii_digit};
-ghost use Rattle.alb_lex.specs.Lexing.{is_blank, single, run, value_after, tokens_from, Gives};
+ghost use Rattle.alb_lex.specs.Lexing.{single, run, value_after, tokens_from, Gives};
 
 use crate::error::LexError;
+use crate::text::{is_blank, text_from};
 use crate::token::{Token, TokenKind};
 use std::alloc::Global;
-
-fn is_blank(b: u8) -> bool
-    ensures { result ≡ is_blank b }
-{
-    b == b' ' || b == b'\t' || b == b'\r'
-}
 
 fn single(b: u8) -> Option<TokenKind>
     ensures { result ≡ single b }
@@ -55,14 +50,6 @@ fn number(text: &[u8], digits: usize) -> u64
         value = value * 10 + u64::from(text[i] - b'0');
     }
     value
-}
-
-// The text from a place on.
-fn text_from(line: &[u8], at: usize) -> &[u8]
-    requires { at ≤ length line.now }
-    ensures { result.now ≡ drop at line.now }
-{
-    &line[at..]
 }
 
 /// The tokens of a line from the byte `start` on, or the leftmost fault.

@@ -8,8 +8,6 @@ pub mod laws;
 mod linearization;
 mod orders;
 mod places;
-#[cfg(test)]
-mod tests;
 
 pub use error::IdentityError;
 pub use identity::Identity;

@@ -1,4 +1,5 @@
 pub mod Both
+pub mod Degrees
 pub mod Leaves
 pub mod Order
 pub mod TypeLemmas

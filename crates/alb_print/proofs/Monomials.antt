@@ -1,28 +1,20 @@
 -- A printed monomial denotes that monomial.
-use Rattle.std.proofs.Common.{◌≡◌, ℕ, zero, suc, ◌+◌, ◌<◌, ◌≤◌, Bool, true, false, List, [], ◌∷◌, ◌++◌, length, refl, sym, ap, subst, arith}
-use Rattle.std.specs.Prelude.{nat_lt, slice_index, ◌&&◌}
+use Rattle.std.proofs.Common.{◌≡◌, ℕ, zero, suc, ◌+◌, ◌<◌, ◌≤◌, true, false, List, [], ◌∷◌, ◌++◌, length, refl, sym, ap, subst, arith}
+use Rattle.std.specs.Prelude.{nat_lt, slice_index}
 use Rattle.std.proofs.lemmas.Bool.{ltb-true}
 use Rattle.alb_mono.specs.Tree.{Tree, leaf, node, degree, are_below}
+use Rattle.alb_mono.proofs.Both.{both_tests}
+use Rattle.alb_mono.proofs.Degrees.{degree_positive}
 use Rattle.alb_lex.specs.declared.token.Token.{Token}
 use Rattle.alb_lex.specs.declared.token.TokenKind.TheVariants as kinds
 use Rattle.alb_poly.specs.Poly.{Poly}
 use Rattle.alb_syntax.specs.Grammar.{Class, Denotes, Makes, Atom, Power, Juxt, Jordan, Term, Sum}
 use Rattle.alb_syntax.specs.Grammar as grammar
-use Rattle.alb_syntax.proofs.Again.{denoted-again}
 use Rattle.alb_print.specs.Text.{mono_text}
 use Rattle.alb_mono.specs.Letters.{AreLetters}
-use Rattle.alb_print.specs.Laws.{MonomialsReadBack}
+use Rattle.alb_print.specs.Laws.{MonomialsDenoteThemselves}
 use Rattle.alb_print.proofs.Spelled.{Spelled, spelled-one, spelled-both, spelled-all, letter_is}
 use Rattle.alb_print.proofs.Values.{times-monomials}
-
-pub degree_pos : (m : Tree) → 1 ≤ degree m
-degree_pos (leaf k) = omega arith
-degree_pos (node l r) = omega (arith, degree_pos l, degree_pos r)
-
--- a test of both parts
-pub both_true : (a b : Bool) → (a && b) ≡ true → (a ≡ true) × (b ≡ true)
-both_true true b e = (refl, e)
-both_true false b e = absurd cc
 
 pub below_from : (k n : ℕ) → nat_lt k n ≡ true → k < n
 below_from k n e = ltb-true k n e
@@ -43,11 +35,11 @@ module _ (p : ℕ) (ls : List ℕ) (are : AreLetters ls) (one : 1 < p) where
       let is = letter_is (slice_index ls k) (are.low k lt) (are.high k lt) in
       spelled-one (slice_index ls k) (kinds.Letter (slice_index ls k)) (λ ts. Denotes p ls Atom n ts ((1, leaf k) ∷ [])) is.0 is.1 is.2
       (λ t e. grammar.a_letter n k (slice_index ls k) t e (are.place k lt))
-  factor zero (node l r) b h small = absurd (omega (arith, degree_pos l, degree_pos r))
+  factor zero (node l r) b h small = absurd (omega (arith, degree_positive l, degree_positive r))
   factor (suc n) (node l r) b h small =
-      let bs = both_true (are_below (length ls) l) (are_below (length ls) r) b in
-      let xl = factor n l bs.0 (omega (arith, degree_pos r)) (omega (arith, degree_pos r)) in
-      let xr = factor n r bs.1 (omega (arith, degree_pos l)) (omega (arith, degree_pos l)) in
+      let bs = both_tests (are_below (length ls) l) (are_below (length ls) r) b in
+      let xl = factor n l bs.0 (omega (arith, degree_positive r)) (omega (arith, degree_positive r)) in
+      let xr = factor n r bs.1 (omega (arith, degree_positive l)) (omega (arith, degree_positive l)) in
       let inside = spelled-both (mono_text ls true l) (mono_text ls true r) (λ ts. Denotes p ls Atom n ts ((1, l) ∷ [])) (λ ts. Denotes p ls Atom n ts ((1, r) ∷ []))
       (λ ts. Denotes p ls Sum n ts ((1, node l r) ∷ [])) xl xr (λ us vs dl dr. sum_of n (us ++ vs) _ (pair n l r us vs small dl dr)) in
       let opened = spelled-both (40 ∷ []) (mono_text ls true l ++ mono_text ls true r) (λ ts. (o : Token) × (ts ≡ o ∷ []) × (o.kind ≡ kinds.Open)) (λ ts. Denotes p ls Sum n ts ((1, node l r) ∷ []))
@@ -63,13 +55,13 @@ module _ (p : ℕ) (ls : List ℕ) (are : AreLetters ls) (one : 1 < p) where
   pub whole : (m : Tree) → are_below (length ls) m ≡ true → degree m ≤ 64 → Spelled (mono_text ls false m) (λ ts. Denotes p ls Juxt 64 ts ((1, m) ∷ []))
   whole (leaf k) b small = λ j. let u = factor 64 (leaf k) b (omega arith) small j in (u.0, grammar.one_power 64 u.0 _ (grammar.an_atom 64 u.0 _ u.1), u.2)
   whole (node l r) b small =
-      let bs = both_true (are_below (length ls) l) (are_below (length ls) r) b in
+      let bs = both_tests (are_below (length ls) l) (are_below (length ls) r) b in
       spelled-both (mono_text ls true l) (mono_text ls true r) (λ ts. Denotes p ls Atom 64 ts ((1, l) ∷ [])) (λ ts. Denotes p ls Atom 64 ts ((1, r) ∷ []))
       (λ ts. Denotes p ls Juxt 64 ts ((1, node l r) ∷ []))
-      (factor 64 l bs.0 (omega (arith, degree_pos r)) (omega (arith, degree_pos r))) (factor 64 r bs.1 (omega (arith, degree_pos l)) (omega (arith, degree_pos l)))
+      (factor 64 l bs.0 (omega (arith, degree_positive r)) (omega (arith, degree_positive r))) (factor 64 r bs.1 (omega (arith, degree_positive l)) (omega (arith, degree_positive l)))
       (λ us vs dl dr. pair 64 l r us vs small dl dr)
 
-pub monomials-read_back : MonomialsReadBack
-monomials-read_back p letters m one are below small at =
+pub monomials-denote : MonomialsDenoteThemselves
+monomials-denote p letters m one are below small at =
     let u = spelled-all (mono_text letters false m) (λ ts. Denotes p letters Juxt 64 ts ((1, m) ∷ [])) (whole p letters are one m below small) at in
-    (u.0, u.2, λ end. denoted-again (record { field = p; letters = letters; end = end }) u.0 ((1, m) ∷ []) (sum_of p letters are one 64 u.0 ((1, m) ∷ []) u.1))
+    (u.0, u.2, sum_of p letters are one 64 u.0 ((1, m) ∷ []) u.1)

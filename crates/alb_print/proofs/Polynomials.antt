@@ -9,18 +9,18 @@ use Rattle.std.proofs.lemmas.List.{append-nil}
 use Rattle.std.proofs.lemmas.List.Concat.{flat_map-cons}
 use Rattle.gf_sums.specs.Sums.{AllBefore, IsCanonical}
 use Rattle.alb_mono.specs.Tree.{Tree, leaf, node, degree, are_below, cmp_monos}
+use Rattle.alb_mono.proofs.Both.{both_tests}
 use Rattle.alb_lex.specs.declared.token.Token.{Token}
 use Rattle.alb_lex.specs.declared.token.TokenKind.TheVariants as kinds
 use Rattle.alb_lex.specs.Lexing.{tokens_from, run, value_after}
 use Rattle.alb_poly.specs.Poly.{Poly}
 use Rattle.alb_syntax.specs.Grammar.{Class, Denotes, Makes, Atom, Power, Juxt, Jordan, Term, Sum}
 use Rattle.alb_syntax.specs.Grammar as grammar
-use Rattle.alb_syntax.proofs.Again.{denoted-again}
 use Rattle.alb_print.specs.Text.{mono_text, is_negative, absolute, term_text, later_text, poly_text}
 use Rattle.alb_mono.specs.Letters.{AreLetters}
-use Rattle.alb_print.specs.Laws.{ReadsAs, AreFit, PolynomialsReadBack}
+use Rattle.alb_print.specs.Laws.{TextDenotes, AreFit, PolynomialsDenoteThemselves}
 use Rattle.alb_print.proofs.Spelled.{Spelled, spelled-one, spelled-map, spelled-none, spelled-then, spelled-sign, spelled-all, letter_is}
-use Rattle.alb_print.proofs.Numbers.{spelled-number, both_true}
+use Rattle.alb_print.proofs.Numbers.{spelled-number}
 use Rattle.alb_print.proofs.Monomials.{whole}
 use Rattle.alb_print.proofs.Values.{multiple-one, minus-one, sum-last, difference-last}
 
@@ -61,7 +61,7 @@ module _ (p : ℕ) (ls : List ℕ) (are : AreLetters ls) (one : 1 < p) (small : 
       let lt = ltb-true k (length ls) h in (slice_index ls k, [], refl, (letter_is (slice_index ls k) (are.low k lt) (are.high k lt)).1)
   mono-first true (node l r) h = (40, _, refl, refl)
   mono-first false (node l r) h =
-      let bs = both_true (are_below (length ls) l) (are_below (length ls) r) h in
+      let bs = both_tests (are_below (length ls) l) (are_below (length ls) r) h in
       let u = mono-first true l bs.0 in (u.0, u.1 ++ mono_text ls true r, ap (λ x. x ++ mono_text ls true r) u.2, u.3)
 
   jordan_of : (m : Tree) → are_below (length ls) m ≡ true → degree m ≤ 64 → Spelled (mono_text ls false m) (λ ts. Denotes p ls Jordan 64 ts ((1, m) ∷ []))
@@ -145,14 +145,14 @@ module _ (p : ℕ) (ls : List ℕ) (are : AreLetters ls) (one : 1 < p) (small : 
       (first_by (is_negative p t.0) t.0 t.1 refl c.0 c.1 fit.0 fit.1)
       (λ us d. later us (t ∷ []) f c fit len d)
 
-zero_reads : (p : ℕ) (ls : List ℕ) → ReadsAs p ls (codes "0") []
+zero_denotes : (p : ℕ) (ls : List ℕ) → TextDenotes p ls (codes "0") []
 unfolding tokens_from run value_after
-zero_reads p ls at =
+zero_denotes p ls at =
     let t : Token = record { kind = kinds.Number 0; from = at; to = at + 1 } in
-    (t ∷ [], refl, λ end. denoted-again (record { field = p; letters = ls; end = end }) (t ∷ []) [] (grammar.one_term 64 (t ∷ []) [] (grammar.a_zero 64 t refl)))
+    (t ∷ [], refl, grammar.one_term 64 (t ∷ []) [] (grammar.a_zero 64 t refl))
 
-pub polynomials-read_back : PolynomialsReadBack
-polynomials-read_back p letters [] one small are c fit len at = zero_reads p letters at
-polynomials-read_back p letters (t ∷ f) one small are c fit len at =
+pub polynomials-denote : PolynomialsDenoteThemselves
+polynomials-denote p letters [] one small are c fit len at = zero_denotes p letters at
+polynomials-denote p letters (t ∷ f) one small are c fit len at =
     let u = spelled-all (poly_text p letters (t ∷ f)) (λ ts. Denotes p letters Sum 64 ts (t ∷ f)) (poly_of p letters are one small t f c fit len) at in
-    (u.0, u.2, λ end. denoted-again (record { field = p; letters = letters; end = end }) u.0 (t ∷ f) u.1)
+    (u.0, u.2, u.1)

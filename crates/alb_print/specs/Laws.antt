@@ -6,27 +6,27 @@ use Rattle.alb_mono.specs.Tree.{Tree, degree, are_below, cmp_monos}
 use Rattle.alb_lex.specs.Lexing.{tokens_from}
 use Rattle.alb_lex.specs.declared.token.Token.{Token}
 use Rattle.alb_poly.specs.Poly.{Poly}
-use Rattle.alb_syntax.specs.Monomials.{mono_denoted}
-use Rattle.alb_syntax.specs.Reading.{denoted}
+use Rattle.alb_syntax.specs.Grammar.{Denotes, Sum}
+use Rattle.alb_syntax.specs.Monomials.{Spells, Product}
 use Rattle.alb_print.specs.Text.{mono_text, poly_text}
 
 -- the tokens of a text denote a polynomial, wherever in a line it stands
-abbrev pub ReadsAs : ℕ → List ℕ → List ℕ → Poly → Type 0
-ReadsAs p letters text f = (at : ℕ) → (ts : List Token) × (tokens_from false at text ≡ Ok ts) × ((end : ℕ) → denoted (record { field = p; letters = letters; end = end }) ts ≡ Ok f)
+abbrev pub TextDenotes : ℕ → List ℕ → List ℕ → Poly → Type 0
+TextDenotes p letters text f = (at : ℕ) → (ts : List Token) × (tokens_from false at text ≡ Ok ts) × Denotes p letters Sum 64 ts f
 
 -- a printed monomial denotes that monomial
-abbrev pub MonomialsReadBack : Type 0
-MonomialsReadBack = (p : ℕ) (letters : List ℕ) (m : Tree) → 1 < p → AreLetters letters → IsTrue (are_below (length letters) m) → degree m ≤ 64
-    → ReadsAs p letters (mono_text letters false m) ((1, m) ∷ [])
+abbrev pub MonomialsDenoteThemselves : Type 0
+MonomialsDenoteThemselves = (p : ℕ) (letters : List ℕ) (m : Tree) → 1 < p → AreLetters letters → IsTrue (are_below (length letters) m) → degree m ≤ 64
+    → TextDenotes p letters (mono_text letters false m) ((1, m) ∷ [])
 
 -- the tokens of a text spell a monomial by itself, wherever in a line it stands
-abbrev pub ReadsAsMonomial : List ℕ → List ℕ → Tree → Type 0
-ReadsAsMonomial letters text m = (at : ℕ) → (ts : List Token) × (tokens_from false at text ≡ Ok ts) × ((end : ℕ) → mono_denoted (record { letters = letters; end = end }) ts ≡ Ok m)
+abbrev pub TextSpells : List ℕ → List ℕ → Tree → Type 0
+TextSpells letters text m = (at : ℕ) → (ts : List Token) × (tokens_from false at text ≡ Ok ts) × Spells letters Product 64 ts m
 
--- a printed monomial is read as that monomial where a monomial stands by itself
+-- a printed monomial spells that monomial where a monomial stands by itself
 abbrev pub MonomialsSpellThemselves : Type 0
 MonomialsSpellThemselves = (letters : List ℕ) (m : Tree) → AreLetters letters → IsTrue (are_below (length letters) m) → degree m ≤ 64
-    → ReadsAsMonomial letters (mono_text letters false m) m
+    → TextSpells letters (mono_text letters false m) m
 
 -- each monomial is over the first n generators, and of degree at most 64
 abbrev pub AreFit : ℕ → Poly → Type 0
@@ -34,6 +34,6 @@ AreFit n [] = Unit {0}
 AreFit n (t ∷ f) = (are_below n t.1 ≡ true) × (degree t.1 ≤ 64) × AreFit n f
 
 -- a printed polynomial denotes that polynomial
-abbrev pub PolynomialsReadBack : Type 0
-PolynomialsReadBack = (p : ℕ) (letters : List ℕ) (f : Poly) → 1 < p → p < 2 ^ 16 → AreLetters letters → IsCanonical cmp_monos p f → AreFit (length letters) f
-    → length f ≤ 65536 → ReadsAs p letters (poly_text p letters f) f
+abbrev pub PolynomialsDenoteThemselves : Type 0
+PolynomialsDenoteThemselves = (p : ℕ) (letters : List ℕ) (f : Poly) → 1 < p → p < 2 ^ 16 → AreLetters letters → IsCanonical cmp_monos p f → AreFit (length letters) f
+    → length f ≤ 65536 → TextDenotes p letters (poly_text p letters f) f

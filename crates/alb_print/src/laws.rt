@@ -1,14 +1,14 @@
 //! The laws of the printed texts.
 
-ghost use Rattle.alb_print.specs.Laws.{MonomialsReadBack, MonomialsSpellThemselves, PolynomialsReadBack};
+ghost use Rattle.alb_print.specs.Laws.{MonomialsDenoteThemselves, MonomialsSpellThemselves, PolynomialsDenoteThemselves};
 
-/// The text of a monomial denotes that monomial, as a polynomial and as a monomial by itself.
+/// The text of a monomial denotes that monomial, by the grammar of polynomials and by that of monomials by themselves.
 pub fn monomials()
-    ensures as_polynomial { MonomialsReadBack }
+    ensures as_polynomial { MonomialsDenoteThemselves }
     ensures by_itself { MonomialsSpellThemselves }
 {}
 
-/// The text of a polynomial denotes that polynomial.
+/// The text of a polynomial denotes that polynomial, by the grammar.
 pub fn polynomials()
-    ensures { PolynomialsReadBack }
+    ensures { PolynomialsDenoteThemselves }
 {}

@@ -7,8 +7,6 @@ mod error;
 mod generators;
 pub mod laws;
 mod problem;
-#[cfg(test)]
-mod tests;
 
 pub use builder::{FinishError, ProblemBuilder};
 pub use error::ProblemError;

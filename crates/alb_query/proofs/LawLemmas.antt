@@ -8,23 +8,21 @@ use Rattle.alb_poly.specs.Consequence.{IsConsequence, AreMultilinear}
 use Rattle.alb_poly.specs.Instance.{Form}
 use Rattle.alb_poly.specs.Normal.{normal}
 use Rattle.alb_poly.specs.Poly.{Poly, IsSamePoly, greatest_degree}
-use Rattle.alb_poly.proofs.NormalLemmas.{normal-each, normal-alike, normal-same, normal-residues, normal-descending, same-normal}
-use Rattle.gf_sums.proofs.Alike.{turned}
+use Rattle.alb_poly.proofs.NormalLemmas.{normal-each, normal-same, normal-residues, same-normal}
 use Rattle.gf_field.proofs.Mod.{back}
-use Rattle.alb_table.specs.Laws.{DecidesByValues}
-use Rattle.alb_table.specs.Leading.{IsNormal}
+use Rattle.alb_table.specs.Laws.{Decides}
 use Rattle.alb_table.specs.Right.{AreHigh, IsWithin, IsBasisTo, poly_value}
 use Rattle.alb_table.specs.RightTable.{IsRightTable, basis_monos, mono_entry}
 use Rattle.alb_table.specs.Table.{Table, IsTable}
-use Rattle.alb_table.proofs.Congruent.{congruent-alike, congruent-joined}
 use Rattle.alb_table.proofs.GeneratorLemmas.{above_one}
-use Rattle.alb_table.proofs.LawLemmas.{values-decide}
+use Rattle.alb_table.proofs.LawLemmas.{monomial-values-decide}
 use Rattle.alb_table.proofs.Right.{right-table}
 use Rattle.alb_table.proofs.Values.{poly-value-basis}
 use Rattle.alb_linear.proofs.LinearLemmas.{all_from_each}
 use Rattle.alb_poly.proofs.Multilinear.{each-from}
-use Rattle.alb_query.specs.Answer.{Answer, Zero, NotZero, NotBuilt, OutOfType, misfit, IsAnswer, IsOver, IsNormalForm}
+use Rattle.alb_query.specs.Answer.{Answer, Zero, NotZero, NotBuilt, OutOfType, misfit, IsAnswer, IsOver}
 use Rattle.alb_query.specs.Laws.{EachIsAnswered}
+use Rattle.alb_query.proofs.ValueLemmas.{decided-form}
 use Rattle.alb_query.proofs.AnswerLemmas.{all-within, misfit-known, not-built, zero-answer, not-zero-answer}
 
 -- zero in normal form
@@ -45,13 +43,13 @@ module _ (fs : List Form) (t : Table) (g : Poly) (multi : AreMultilinear fs) (hi
   pos = omega (arith, above_one t tab)
 
   -- what the value in the table answers
-  by-value : misfit t.target g ≡ None → greatest_degree g ≤ t.degree → DecidesByValues t.p fs (mono_entry t.parts) g →
+  by-value : misfit t.target g ≡ None → greatest_degree g ≤ t.degree → Decides t.p fs g value →
       Each (λ s. IsBasisTo t.p fs t.target t.degree s.1) value → (f : Poly) → normal t.p value ≡ f → Answered
   by-value m h d b [] e =
       (Zero, zero-answer t.p fs t.target t.degree g m h (d.zero.0 (λ x. back (subst (λ f. IsSamePoly t.p f value) e (normal-same t.p value) x))), λ known. tt)
   by-value m h d b (s ∷ f) e = (
     NotZero (normal t.p value),
-    not-zero-answer t.p fs t.target t.degree g m h not-zero (normal t.p value) form,
+    not-zero-answer t.p fs t.target t.degree g m h not-zero (normal t.p value) (decided-form t.p fs g value pos d),
     λ known. (normal-residues t.p value pos, letters),
   )
     where
@@ -64,14 +62,6 @@ module _ (fs : List Form) (t : Table) (g : Poly) (multi : AreMultilinear fs) (hi
       letters = all_from_each (λ s. IsTrue (are_below (length t.target) s.1)) (normal t.p value)
           (normal-each (λ x. IsTrue (are_below (length t.target) x)) t.p value (each-from _ _ value (λ s k. k.within.below) b))
 
-      form : IsNormalForm t.p fs g (normal t.p value)
-      form = record {
-        descending = normal-descending t.p value pos;
-        residues = normal-residues t.p value pos;
-        normal = normal-each (IsNormal t.p fs) t.p value d.normal;
-        congruent = congruent-joined t.p fs pos d.congruent (congruent-alike t.p fs pos (turned (normal-alike t.p value)));
-      }
-
   -- where the types fit, by the degree
   by-degree : misfit t.target g ≡ None → Answered
   by-degree m = elim (cases_lt t.degree (greatest_degree g)) [
@@ -79,7 +69,7 @@ module _ (fs : List Form) (t : Table) (g : Poly) (multi : AreMultilinear fs) (hi
     | inr l ↦ (
         let w : Each (λ s. IsWithin t.target t.degree s.1) g = all-within t.target t.degree g m l in
         let over = right-table t.p pos fs multi high t.target t.degree (basis_monos t.parts) (mono_entry t.parts) right.right in
-        by-value m l (values-decide t.p fs t.target t.degree (basis_monos t.parts) (mono_entry t.parts) g pos multi high right.right w)
+        by-value m l (monomial-values-decide t.p fs t.target t.degree (basis_monos t.parts) (mono_entry t.parts) g pos multi high right.right w)
         (poly-value-basis t.p pos fs (IsWithin t.target t.degree) (IsBasisTo t.p fs t.target t.degree) (mono_entry t.parts) over g w) (normal t.p value) refl)
   ]
 
@@ -92,4 +82,4 @@ module _ (fs : List Form) (t : Table) (g : Poly) (multi : AreMultilinear fs) (hi
 
 -- THE LAW
 pub each-is-answered : EachIsAnswered
-each-is-answered fs t g multi high tab right = answered fs t g multi high tab right
+each-is-answered r t g h = answered r.forms t g h.multilinear h.high h.table h.right

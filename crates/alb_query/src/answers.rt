@@ -3,16 +3,13 @@ ghost use Rattle.gf_sums.specs.Sums.{reindex};
 ghost use Rattle.alb_mono.specs.Listing.{Each};
 ghost use Rattle.alb_mono.specs.Mono.{tree};
 ghost use Rattle.alb_mono.specs.Tree.{degree, are_below};
-ghost use Rattle.alb_poly.specs.Consequence.{AreMultilinear};
 ghost use Rattle.alb_poly.specs.Normal.{normal};
 ghost use Rattle.alb_poly.specs.Poly.{AreResidues};
 ghost use Rattle.alb_poly.specs.Rules.{forms};
 ghost use Rattle.alb_poly.specs.Terms.{terms};
 ghost use Rattle.alb_rows.specs.Row.{comb};
 ghost use Rattle.alb_table.specs.PartView.{elems, mono_at};
-ghost use Rattle.alb_table.specs.Right.{AreHigh};
-ghost use Rattle.alb_table.specs.RightTable.{IsRightTable};
-ghost use Rattle.alb_table.specs.Table.{IsTable};
+ghost use Rattle.alb_table.specs.RightFor.{rules_view, IsRightFor};
 ghost use Rattle.alb_table.specs.Value.{IsVector};
 ghost use Rattle.alb_query.specs.Answer.{fits, misfit, IsAnswer, IsOver};
 ghost use Rattle.alb_query.specs.Views.{answer_of};
@@ -55,8 +52,7 @@ fn row_terms(
     tables: &Tables,
     row: &Row,
 ) -> Result<Vec<Term>, NoMemory>
-    requires table { IsTable tables.now }
-    requires right { IsRightTable (forms rules.now) tables.now }
+    requires right { IsRightFor (rules_view rules.now) tables.now }
     requires row { IsVector tables.now.p (length (elems tables.now.parts)) row.now }
     ensures value { IfOk result (λ v. terms v.items ≡ reindex (mono_at tables.now.parts) (comb row.now)) }
 {
@@ -71,9 +67,7 @@ fn row_terms(
 /// The answer to the question whether a polynomial follows from the identities, by a table that is right for them: its normal
 /// form is the value by the entries (Jacobs, *The Albert nonassociative algebra system*, 1994).
 pub fn answer(alloc: Global, rules: &Rules, tables: &Tables, g: &Poly) -> Result<Reply, NoMemory>
-    requires multilinear { AreMultilinear (forms rules.now) }
-    requires high { AreHigh (forms rules.now) }
-    requires right { IsRightTable (forms rules.now) tables.now }
+    requires right { IsRightFor (rules_view rules.now) tables.now }
     requires residues { AreResidues tables.now.p g.now }
     requires known { All (λ t. IsTrue (are_below (length tables.now.target) t.1)) g.now }
     // The answer is that of the definition.

@@ -8,6 +8,3 @@ mod reply;
 
 pub use answers::answer;
 pub use reply::Reply;
-
-#[cfg(test)]
-mod tests;

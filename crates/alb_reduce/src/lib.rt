@@ -13,8 +13,6 @@ mod places;
 mod recipes;
 mod reduced;
 mod steps;
-#[cfg(test)]
-mod tests;
 
 pub use echelon::{Echelon, Offered};
 pub use reduced::Reduced;

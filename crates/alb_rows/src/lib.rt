@@ -8,7 +8,5 @@ pub mod laws;
 mod merge;
 mod row;
 mod search;
-#[cfg(test)]
-mod tests;
 
 pub use row::Row;

@@ -6,8 +6,6 @@ mod error;
 mod form;
 mod reading;
 mod refusal;
-#[cfg(test)]
-mod tests;
 mod word;
 
 pub use command::Command;

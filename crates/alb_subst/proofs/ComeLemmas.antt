@@ -8,7 +8,7 @@ use Rattle.std.specs.declared.cmp.Ordering.TheVariants.{Less, Equal}
 use Rattle.alb_mono.specs.Listing.{Each, IsIn, Ascends}
 use Rattle.alb_mono.proofs.ListingLemmas.{each-member, in-right}
 use Rattle.alb_poly.specs.Poly.{list_eq}
-use Rattle.alb_table.proofs.PartLemmas.{list_eq-itself, list_eq-sound}
+use Rattle.alb_linear.proofs.IdentityLemmas.{list_eq-itself, list_eq-sound}
 use Rattle.alb_subst.specs.Tuples.{cmp_tuples}
 use Rattle.alb_subst.specs.declared.range.Range.{Range}
 use Rattle.alb_subst.specs.Ranges.{after, Next, Last, Heads, tuples, to_come, IsGoing, RisesFrom, AddsUp, IsTuple}

@@ -1,11 +1,10 @@
 -- The row of an instance, term by term.
-use Rattle.std.proofs.Common.{◌≡◌, ◌≢◌, ℕ, zero, suc, ◌+◌, ◌-◌, ◌<◌, ◌==◌, true, false, inl, inr, drop, add-one, List, [], ◌∷◌, ◌++◌, map, length, take, get_or, length-drop, replicate, nat_eq, sym, refl, ap, ◌∙◌, arith, subst, append-nil}
+use Rattle.std.proofs.Common.{◌≡◌, ◌≢◌, ℕ, zero, suc, ◌+◌, ◌<◌, ◌==◌, true, false, inl, inr, drop, add-one, List, [], ◌∷◌, ◌++◌, map, length, take, get_or, replicate, sym, refl, ap, ◌∙◌, arith, subst, append-nil}
 use Rattle.std.specs.Prelude.{slice_index, slice_index_or, if◌then◌else◌}
 use Rattle.std.proofs.lemmas.Bool.{cases_Bool}
 use Rattle.std.proofs.lemmas.Bool.Decides.{nat_tests}
-use Rattle.gf_sums.proofs.Totals.{weigh-scale}
 use Rattle.std.specs.List.{All}
-use Rattle.std.proofs.lemmas.List.{take_more, map-append, get_or-map, length-map, get_or-replicate, get_or-take, get_or-drop, length-take, take-append-drop, take_all}
+use Rattle.std.proofs.lemmas.List.{take_more, map-append, get_or-map, length-map, get_or-replicate}
 use Rattle.std.proofs.Math.ListN.{length-replicate}
 use Rattle.std.proofs.lemmas.List.Concat.{flat_map-append}
 use Rattle.std.proofs.lemmas.List.Elements.{All-cons, All-nil}
@@ -13,7 +12,7 @@ use Rattle.std.proofs.lemmas.List.Kept.{AllPairs-cons}
 use Rattle.gf_field.specs.Modular.{IsSameMod}
 use Rattle.gf_field.proofs.Mod.{same, ◌⊙◌}
 use Rattle.gf_sums.specs.Sums.{Comb, coefficient, scale}
-use Rattle.gf_sums.proofs.Alike.{Alike, alike-same, same-alike, joined, equal, append-alike, scale-alike, multiply-alike}
+use Rattle.gf_sums.proofs.Alike.{scale-alike, multiply-alike}
 use Rattle.alb_mono.specs.Listing.{Each}
 use Rattle.alb_mono.specs.Tree.{Tree, leaf, node, AreBelow, are_below}
 use Rattle.alb_poly.specs.Algebra.{evaluate, unit}
@@ -23,21 +22,19 @@ use Rattle.alb_poly.specs.Terms.{term, terms}
 use Rattle.alb_poly.specs.declared.term.Term.{Term}
 use Rattle.alb_poly.proofs.Multilinear.{multilinear-below, each-from}
 use Rattle.alb_linear.proofs.LinearLemmas.{test_from_below}
-use Rattle.alb_rows.specs.Row.{Cells, comb, entry, AreSameVector, ColumnsBelow}
+use Rattle.alb_rows.specs.Row.{Cells, comb, entry, AreSameVector}
 use Rattle.alb_rows.specs.Merge.{at_column}
-use Rattle.alb_rows.proofs.RowLemmas.{told, written_back}
+use Rattle.alb_rows.proofs.RowLemmas.{written_back}
 use Rattle.alb_table.specs.Grid.{same_pair}
 use Rattle.alb_table.specs.PartView.{PartView}
 use Rattle.alb_table.specs.Entry.{table_product}
 use Rattle.alb_table.specs.Value.{IsVector, vectors}
 use Rattle.alb_table.specs.Leading.{outer}
 use Rattle.alb_table.specs.Block.{image, spread}
+use Rattle.alb_table.proofs.ValueLemmas.{vector-alike, evaluate-below}
 use Rattle.alb_subst.specs.Columns.{pair_at}
 use Rattle.alb_subst.specs.Sums.{Adds, HasEntries, instance_row}
 use Rattle.alb_subst.proofs.SumLemmas.{adds_alike, adds_equal, adds_then, adds_none}
-
-vector_alike : {p : ℕ} {f g : Comb ℕ} → AreSameVector p f g → Alike p f g
-vector_alike h = alike-same nat_eq told h
 
 abbrev pub pair : ℕ → ℕ → ℕ × ℕ
 pair b c = (b, c)
@@ -47,7 +44,7 @@ pub adds_product : (p : ℕ) (columns : List (ℕ × ℕ)) (old new : List ℕ) 
     AreSameVector p f (evaluate prod v l) → AreSameVector p g (evaluate prod v r) → Adds p columns old new (scale x (outer pair f g)) →
     Adds p columns old new (scale x (image pair prod v (node l r)))
 adds_product p columns old new x prod v l r f g h k a =
-    adds_alike p columns old new _ _ (scale-alike x (multiply-alike (λ b c. (1, pair b c) ∷ []) (vector_alike h) (vector_alike k))) a
+    adds_alike p columns old new _ _ (scale-alike x (multiply-alike (λ b c. (1, pair b c) ∷ []) (vector-alike h) (vector-alike k))) a
 
 -- one more term
 pub adds_term : (p : ℕ) (columns : List (ℕ × ℕ)) (start old new : List ℕ) (h : Tree → Comb (ℕ × ℕ)) (ts : List Term) (k : ℕ) (t : Term) → k < length ts → t ≡ get_or ts k t →
@@ -86,10 +83,6 @@ units-at : (tuple : List ℕ) (k : ℕ) → k < length tuple → vectors (map un
 units-at tuple k l = ap comb (get_or-map unit_row tuple k 0 [] l)
 
 -- ---- values at the positions of a form
-
-evaluate-below : (prod : ℕ → ℕ → Comb ℕ) (v w : ℕ → Comb ℕ) (n : ℕ) (m : Tree) → ((k : ℕ) → k < n → v k ≡ w k) → AreBelow n m → evaluate prod v m ≡ evaluate prod w m
-evaluate-below prod v w n (leaf k) h b = h k b
-evaluate-below prod v w n (node l r) h b = rw (evaluate-below prod v w n l h b.0, evaluate-below prod v w n r h b.1) refl
 
 image-below : (prod : ℕ → ℕ → Comb ℕ) (v w : ℕ → Comb ℕ) (n : ℕ) (m : Tree) → ((k : ℕ) → k < n → v k ≡ w k) → AreBelow n m → image pair prod v m ≡ image pair prod w m
 image-below prod v w n (leaf k) h b = refl

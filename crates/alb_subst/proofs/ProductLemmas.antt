@@ -3,7 +3,7 @@ use Rattle.std.proofs.Common.{◌≡◌, ℕ, zero, suc, ◌+◌, ◌-◌, ◌*�
 use Rattle.std.proofs.Math.Nat.{mul-le-mul_left}
 use Rattle.std.proofs.lemmas.Bool.{cases_Bool}
 use Rattle.std.proofs.lemmas.Bool.Decides.{nat_tests}
-use Rattle.std.proofs.lemmas.List.{length-map, map-append, reverse-append}
+use Rattle.std.proofs.lemmas.List.{map-append, reverse-append}
 use Rattle.gf_sums.specs.Sums.{total}
 use Rattle.alb_mono.specs.Listing.{Each, Ascends}
 use Rattle.alb_mono.specs.Tree.{cmp_types}
@@ -17,9 +17,12 @@ use Rattle.alb_table.specs.PartView.{PartView, first_of, dim_of, elems}
 use Rattle.alb_table.specs.Entry.{products, products_of}
 use Rattle.alb_subst.specs.Columns.{IsDistinct}
 use Rattle.alb_subst.specs.Products.{split_size}
-use Rattle.alb_table.proofs.PartLemmas.{list_eq-sound, list_eq-itself, list_eq-other, elems_step}
+use Rattle.alb_linear.proofs.IdentityLemmas.{list_eq-sound, list_eq-itself}
+use Rattle.alb_table.proofs.PartLemmas.{list_eq-other, elems_step}
 use Rattle.alb_table.proofs.RangeLemmas.{range_within}
 use Rattle.alb_table.proofs.TypesTo.{apart as types_apart, each-rising}
+use Rattle.alb_table.proofs.GridLemmas.{length-rectangle}
+use Rattle.alb_subst.proofs.SumLemmas.{pair-turned}
 
 -- ---- lists of different pairs
 
@@ -33,15 +36,6 @@ other-left x y h = elim (cases_Bool (x.0 == y.0)) [ inr e ↦ rw e refl | inl e 
 other-right : (i j k : ℕ) → k < j → same_pair (i, j) (i, k) ≡ false
 other-right i j k h = let e : (j == k) ≡ false = grind (arith, nat_tests) in let f : (i == i) ≡ true = grind (arith, nat_tests) in rw (f, e) refl
 
-turned : (x y : ℕ × ℕ) → same_pair x y ≡ false → same_pair y x ≡ false
-turned x y h = elim (cases_Bool (x.0 == y.0)) [
-  | inr e ↦ let f : (y.0 == x.0) ≡ false = (let q : (x.0 == y.0) ≡ false = e in grind (arith, nat_tests)) in rw f refl
-  | inl e ↦
-      let g : (x.1 == y.1) ≡ false = rw e at h in
-      let f : (y.0 == x.0) ≡ true = (let q : (x.0 == y.0) ≡ true = e in grind (arith, nat_tests)) in
-      let k : (y.1 == x.1) ≡ false = grind (arith, nat_tests) in rw (f, k) refl
-]
-
 each-reverse : (P : ℕ × ℕ → Type 0) (xs : List (ℕ × ℕ)) → Each P xs → Each P (reverse xs)
 each-reverse P [] h = tt
 each-reverse P (x ∷ xs) h = subst (Each P) (sym (reverse-append (x ∷ []) xs)) (each-append P (reverse xs) (x ∷ []) (each-reverse P xs h.1) (h.0, tt))
@@ -51,7 +45,7 @@ distinct-reverse [] h = tt
 distinct-reverse (x ∷ xs) h =
     subst IsDistinct (sym (reverse-append (x ∷ []) xs))
     (distinct-append (reverse xs) (x ∷ []) (distinct-reverse xs h.1) (tt, tt)
-    (each-reverse _ xs (each-weaker (λ y. same_pair y x ≡ false) _ xs (λ y e. (turned y x e, tt)) h.0)))
+    (each-reverse _ xs (each-weaker (λ y. same_pair y x ≡ false) _ xs (λ y e. (pair-turned y x e, tt)) h.0)))
 
 -- ---- rectangles
 
@@ -123,16 +117,6 @@ pub distinct-products : (parts : List PartView) (t : List ℕ) → IsDistinct (p
 distinct-products parts t = distinct-products_of parts (splits t) (splits-differ t)
 
 -- ---- how many there are
-
-length-rising : (a n : ℕ) → length (rising a n) ≡ n
-length-rising a zero = refl
-length-rising a (suc n) = ap suc (length-rising (suc a) n)
-
-length-rectangle : (a n b m : ℕ) → length (rectangle a n b m) ≡ n * m
-length-rectangle a zero b m = omega arith
-length-rectangle a (suc n) b m =
-    let r : length (row a b m) ≡ m = length-map (rising b m) (λ j. (a, j)) ∙ length-rising b m in
-    length-append (row a b m) (rectangle (suc a) n b m) ∙ (let k = length-rectangle (suc a) n b m in omega arith)
 
 pub length-products_of : (parts : List PartView) (ss : List (List ℕ × List ℕ)) → length (products_of parts ss) ≡ total (split_size parts) ss
 length-products_of parts [] = refl

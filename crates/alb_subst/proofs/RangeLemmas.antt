@@ -1,8 +1,7 @@
 -- The ranges of the types within a type.
-use Rattle.std.proofs.Common.{◌≡◌, ℕ, ◌+◌, ◌-◌, ◌<◌, ◌≤◌, ◌^◌, Bool, true, false, List, [], ◌∷◌, ◌++◌, map, length, sym, refl, ap, ◌∙◌, arith, inl, inr, subst}
-use Rattle.std.specs.Prelude.{◌&&◌, nat_le}
+use Rattle.std.proofs.Common.{◌≡◌, ℕ, ◌+◌, ◌-◌, ◌<◌, ◌≤◌, ◌^◌, true, List, [], ◌∷◌, ◌++◌, map, length, sym, refl, ap, ◌∙◌, arith, inl, inr, subst}
+use Rattle.std.specs.Prelude.{nat_le}
 use Rattle.std.specs.declared.cmp.Ordering.TheVariants.{Less}
-use Rattle.std.proofs.lemmas.Bool.{cases_Bool}
 use Rattle.std.proofs.lemmas.Bool.Decides.{nat_tests}
 use Rattle.alb_mono.specs.Listing.{Each, IsIn, Ascends}
 use Rattle.alb_mono.specs.Tree.{cmp_types, type_le}
@@ -10,32 +9,17 @@ use Rattle.std.proofs.lemmas.List.{map-append}
 use Rattle.alb_mono.specs.Types.{type_minus, types_of}
 use Rattle.alb_mono.proofs.TypeLemmas.{rising_step}
 use Rattle.alb_mono.proofs.Order.{cmp_types_total}
-use Rattle.alb_mono.proofs.ListingLemmas.{each-weaker, each-both, each-map, each-member, each-always, in-map}
+use Rattle.alb_mono.proofs.ListingLemmas.{each-weaker, each-both, each-map, each-always, in-map}
 use Rattle.alb_table.specs.PartView.{PartView, first_of, dim_of, elems, type_at}
 use Rattle.alb_table.specs.Table.{Table, IsTable, types_to}
-use Rattle.alb_table.proofs.PartLemmas.{list_eq-itself, list_eq-sound}
 use Rattle.alb_table.proofs.TypesTo.{IsTypeTo, types_to-each, types_to-all, types_to-ascends, apart}
 use Rattle.alb_table.proofs.RangeLemmas.{ats, InRange, number_in_range, type_of_range, range_within}
 use Rattle.alb_table.proofs.TableLemmas.{types_ascend, type_shape}
-use Rattle.alb_poly.specs.Poly.{list_eq}
 use Rattle.alb_subst.specs.declared.range.Range.{Range}
 use Rattle.alb_subst.specs.Ranges.{RisesFrom, range_of, ranges}
-
-both_tests : (a b : Bool) → (a && b) ≡ true → (a ≡ true) × (b ≡ true)
-both_tests true b h = (refl, h)
-both_tests false b h = absurd (cc)
+use Rattle.alb_table.proofs.RiseLemmas.{le_trans, ranges_rise}
 
 -- ---- types within types
-
-pub le_trans : (xs ys zs : List ℕ) → length xs ≡ length ys → length ys ≡ length zs → type_le xs ys ≡ true → type_le ys zs ≡ true → type_le xs zs ≡ true
-le_trans [] ys zs h k a b = refl
-le_trans (x ∷ xs) [] zs h k a b = absurd (omega arith)
-le_trans (x ∷ xs) (y ∷ ys) [] h k a b = absurd (omega arith)
-le_trans (x ∷ xs) (y ∷ ys) (z ∷ zs) h k a b =
-    let p = both_tests _ _ a in let q = both_tests _ _ b in
-    let s : nat_le x y ≡ true = p.0 in let t : nat_le y z ≡ true = q.0 in
-    let e : nat_le x z ≡ true = grind (arith, nat_tests) in
-    rw (e, le_trans xs ys zs (omega arith) (omega arith) p.1 q.1)
 
 pub minus_le : (r s : List ℕ) → length s ≡ length r → type_le (type_minus r s) r ≡ true
 minus_le [] s h = refl
@@ -46,31 +30,6 @@ minus_le (x ∷ r) (c ∷ s) h = let e : nat_le (x - c) x ≡ true = grind (arit
 
 no_less : (t u : List ℕ) → cmp_types t u ≡ Less → cmp_types u t ≡ Less → ⊥
 no_less t u h k = apart t t (cmp_types_total.trans t u t h k) refl
-
--- the numbers of an earlier type come before those of a later one
-ranges_rise : (parts : List PartView) (w u : List ℕ) → Ascends cmp_types (ats parts) → IsIn w (ats parts) → IsIn u (ats parts) → cmp_types w u ≡ Less →
-    first_of parts w + dim_of parts w ≤ first_of parts u
-ranges_rise [] w u a i j h = absurd i
-ranges_rise (q ∷ qs) w u a i j h = elim (cases_Bool (list_eq q.at u)) [
-  | inl e ↦
-      let s : q.at ≡ u = list_eq-sound q.at u e in
-      absurd (before q qs w u a i h s)
-  | inr e ↦ elim (cases_Bool (list_eq q.at w)) [
-    | inl f ↦ rw (e, f) (omega arith)
-    | inr f ↦
-        let k = ranges_rise qs w u a.1 (later q qs w i f) (later q qs u j e) h in
-        rw (e, f) (omega (arith, k))
-  ]
-]
-  where
-    later : (q : PartView) (qs : List PartView) (w : List ℕ) → IsIn w (ats (q ∷ qs)) → list_eq q.at w ≡ false → IsIn w (ats qs)
-    later q qs w (inl e) h = absurd (let k : list_eq w w ≡ true = list_eq-itself w in let l : list_eq w w ≡ false = ap (λ z. list_eq z w) e ∙ h in cc)
-    later q qs w (inr i) h = i
-
-    before : (q : PartView) (qs : List PartView) (w u : List ℕ) → Ascends cmp_types (ats (q ∷ qs)) → IsIn w (ats (q ∷ qs)) → cmp_types w u ≡ Less → q.at ≡ u → ⊥
-    before q qs w u a (inl e) h s = apart w u h (e ∙ s)
-    before q qs w u a (inr i) h s =
-        no_less w u h (ap (λ z. cmp_types z w) (sym s) ∙ each-member (λ y. cmp_types q.at y ≡ Less) (ats qs) w a.0 i)
 
 rises-from : (parts : List PartView) (n : ℕ) (ts : List (List ℕ)) → Ascends cmp_types (ats parts) → Ascends cmp_types ts → Each (λ w. IsIn w (ats parts)) ts →
     Each (λ w. n ≤ first_of parts w) ts → RisesFrom n (map (range_of parts) ts)

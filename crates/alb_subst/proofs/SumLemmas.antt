@@ -1,6 +1,7 @@
 -- Sums of pairs, kept as one residue for each column.
 use Rattle.std.proofs.Common.{◌≡◌, ℕ, zero, suc, ◌+◌, ◌*◌, ◌%◌, ◌<◌, ◌≤◌, ◌==◌, Bool, true, false, List, [], ◌∷◌, ◌++◌, length, take, get_or, set, sym, refl, ap, ◌∙◌, arith, inl, inr, ◌⊎◌, subst, append-nil, add_assoc}
-use Rattle.std.specs.Prelude.{◌&&◌, not, nat_lt, Some, None, slice_index, position}
+use Rattle.alb_mono.proofs.Both.{both_tests}
+use Rattle.std.specs.Prelude.{not, nat_lt, Some, None, slice_index, position}
 use Rattle.std.specs.List.{flat_map, prefix_len, position_or_len}
 use Rattle.std.proofs.Common.{get_or-set_other, get_or-set_same}
 use Rattle.std.proofs.Math.Nat.{mul-add, mul_assoc}
@@ -23,11 +24,7 @@ use Rattle.alb_subst.specs.Sums.{Adds, pairs_with}
 
 -- ---- pairs
 
-both_tests : (a b : Bool) → (a && b) ≡ true → (a ≡ true) × (b ≡ true)
-both_tests true b h = (refl, h)
-both_tests false b h = absurd (cc)
-
-pair-sound : (x y : ℕ × ℕ) → same_pair x y ≡ true → x ≡ y
+pub pair-sound : (x y : ℕ × ℕ) → same_pair x y ≡ true → x ≡ y
 pair-sound (a, b) (c, d) h =
     let k = both_tests _ _ h in
     let e : (a == c) ≡ true = k.0 in let f : (b == d) ≡ true = k.1 in
@@ -39,7 +36,7 @@ pair-itself x = let e : (x.0 == x.0) ≡ true = grind (arith, nat_tests) in let 
 pub pairs_tell : Tells same_pair
 pairs_tell = record { sound = pair-sound; whole = pair-itself }
 
-pair-turned : (x y : ℕ × ℕ) → same_pair x y ≡ false → same_pair y x ≡ false
+pub pair-turned : (x y : ℕ × ℕ) → same_pair x y ≡ false → same_pair y x ≡ false
 pair-turned x y h = elim (cases_Bool (same_pair y x)) [
   | inr e ↦ e
   | inl e ↦ absurd (let q : y ≡ x = pair-sound y x e in let k : same_pair x y ≡ true = ap (same_pair x) q ∙ pair-itself x in cc)
@@ -140,9 +137,6 @@ module _ (p : ℕ) (columns : List (ℕ × ℕ)) where
   }
 
 -- ---- lines and products of rows
-
-cell_more : (cells : Cells) (k : ℕ) (d : ℕ × ℕ) → k < length cells → comb (take (k + 1) cells) ≡ comb (take k cells) ++ ((get_or cells k d).1, (get_or cells k d).0) ∷ []
-cell_more cells k d l = ap comb (take_more cells k d l) ∙ map-append (λ c. (c.1, c.0)) (take k cells) (get_or cells k d ∷ [])
 
 pub line_more : (x b : ℕ) (cells : Cells) (k : ℕ) (d : ℕ × ℕ) → k < length cells →
     scale x (pairs_with b (take (k + 1) cells)) ≡ scale x (pairs_with b (take k cells)) ++ (x * (get_or cells k d).1, (b, (get_or cells k d).0)) ∷ []

@@ -1,13 +1,13 @@
 -- What the ranges of a table enumerate: the tuples whose types add up.
 use Rattle.std.proofs.Common.{◌≡◌, ℕ, zero, suc, ◌+◌, ◌<◌, Bool, true, List, [], ◌∷◌, length, replicate, sym, refl, ap, ◌∙◌, arith, subst, sum}
 use Rattle.std.proofs.Math.ListN.{length-replicate}
-use Rattle.std.specs.Prelude.{nat_le, All}
+use Rattle.std.specs.Prelude.{nat_le}
 use Rattle.std.proofs.lemmas.Bool.Decides.{nat_tests}
 use Rattle.alb_table.proofs.PartLemmas.{sum-cons}
 use Rattle.alb_mono.specs.Listing.{Each}
 use Rattle.alb_mono.specs.Tree.{type_le}
 use Rattle.alb_mono.specs.Types.{type_minus}
-use Rattle.alb_mono.proofs.ListingLemmas.{each-weaker, each-member, each-at}
+use Rattle.alb_mono.proofs.ListingLemmas.{each-weaker, each-member}
 use Rattle.alb_mono.proofs.TypeLemmas.{length-type_plus}
 use Rattle.alb_mono.proofs.TypesListing.{plus-minus, length-minus, minus-plus, le-plus}
 use Rattle.alb_table.specs.PartView.{elems, type_at}
@@ -16,15 +16,10 @@ use Rattle.alb_table.proofs.TableLemmas.{type_shape}
 use Rattle.alb_subst.specs.declared.range.Range.{Range}
 use Rattle.alb_subst.specs.Ranges.{tuples, AddsUp, IsTuple, range_of, ranges, to_come}
 use Rattle.alb_subst.specs.Tuples.{type_sum, IsTupleOf, AreTuples}
-use Rattle.alb_subst.proofs.RangeLemmas.{le_trans, minus_le, rises-ranges, long-ranges, number-type, type-range}
+use Rattle.alb_table.proofs.RiseLemmas.{le_trans}
+use Rattle.alb_subst.proofs.RangeLemmas.{minus_le, rises-ranges, long-ranges, number-type, type-range}
 use Rattle.alb_subst.proofs.TuplesListing.{tuples-listing}
-
-pub each_from_all : {X : Type 0} (P : X → Type 0) (xs : List X) → All P xs → Each P xs
-each_from_all P [] h = tt
-each_from_all P (x ∷ xs) h = (h 0 x (omega arith), each_from_all P xs (λ k d l. h (suc k) d (omega arith)))
-
-all_from_each : {X : Type 0} (P : X → Type 0) (xs : List X) → Each P xs → All P xs
-all_from_each P xs h = λ k d l. each-at P xs k d h l
+use Rattle.alb_linear.proofs.LinearLemmas.{each_from_all, all_from_each}
 
 zeros : (r : List ℕ) → sum r ≡ 0 → replicate (length r) 0 ≡ r
 zeros [] h = refl

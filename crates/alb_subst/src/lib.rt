@@ -9,8 +9,6 @@ mod products;
 mod range;
 mod row;
 mod sums;
-#[cfg(test)]
-mod tests;
 mod tuples;
 
 pub use columns::Columns;

@@ -13,12 +13,15 @@ use Rattle.alb_poly.specs.Normal.{normal}
 use Rattle.gf_sums.specs.Sums.{scale}
 use Rattle.alb_syntax.specs.declared.error.SyntaxError.{SyntaxError}
 use Rattle.alb_syntax.specs.declared.error.SyntaxError.TheVariants as errors
-use Rattle.alb_syntax.specs.Gives.{◌>>=◌, Gives}
+use Rattle.alb_lex.specs.Results.{◌>>=◌}
+use Rattle.alb_syntax.specs.Gives.{Gives}
 use Rattle.alb_syntax.specs.Operations.{within, sum, difference, times, multiple, associator, commutator, jordan, raised}
 use Rattle.alb_syntax.specs.Reading.{Setting, Reader, ReaderOf, next, after, place, must, must_or, unexpected, is_plus, is_sign, is_star, is_comma, is_close, is_square_close, begins_atom, turns, each, letter, atom_at, atom, exponent_at, exponent, is_caret, power, factor, juxt, star, jprod, numbered, term_at, term, first_at, first, signed, poly, two_more, round, square, bracketed, ended, denoted}
 use Rattle.alb_syntax.specs.Grammar.{Class, Denotes, Makes, Atom, Power, Juxt, Jordan, Term, Sum}
 use Rattle.alb_syntax.specs.Grammar as grammar
-use Rattle.alb_syntax.proofs.Binds.{bind_ok, guard_ok, ok_is}
+use Rattle.alb_mono.proofs.Both.{both_tests}
+use Rattle.alb_lex.proofs.Binds.{bind_ok, guard_ok, ok_is}
+use Rattle.alb_syntax.proofs.Regroups.{between_one, between_two, between_three}
 
 -- ---- an operation has one result, wherever a limit would be answered
 
@@ -128,6 +131,14 @@ FindsOpen s n bracket = (t : Token) (ts : List Token) (x : Poly × List Token) �
 found_at : (s : Setting) (c : Class) (n : ℕ) (ts us : List Token) (f : Poly) (front : List Token) → ts ≡ front ++ us → Denotes s.field s.letters c n front f → (x : Poly × List Token) → (f, us) ≡ x → Found s c n ts x
 found_at s c n ts us f front w d x e = subst (λ (y : Poly × List Token). Found s c n ts y) e (record { front = front; whole = w; denotes = d })
 
+found_then : (s : Setting) (c : Class) (n : ℕ) (ts mid us vs : List Token) (x : Poly × List Token) → ts ≡ us ++ mid → mid ≡ vs ++ x.1 → Denotes s.field s.letters c n (us ++ vs) x.0 → Found s c n ts x
+found_then s c n ts mid us vs x p q d = record { front = us ++ vs; whole = p ∙ ap (λ z. us ++ z) q ∙ sym (append_assoc us vs x.1); denotes = d }
+
+-- one piece after another
+joined : {V : Type 0} (P : List Token → V → Type 0) (us vs ws ts mid : List Token) (x : V × List Token) → ts ≡ vs ++ mid → mid ≡ ws ++ x.1 → P ((us ++ vs) ++ ws) x.0
+    → (front : List Token) × (ts ≡ front ++ x.1) × P (us ++ front) x.0
+joined P us vs ws ts mid x p q d = (vs ++ ws, p ∙ ap (λ z. vs ++ z) q ∙ sym (append_assoc vs ws x.1), subst (λ z. P z x.0) (append_assoc us vs ws) d)
+
 -- turns of a repetition, of which the tokens so far denote the value so far
 pub turns-found : {V : Type 0} (P : List Token → V → Type 0) (more : Option TokenKind → Bool) (part : V → ReaderOf V)
     → ((us : List Token) (f : V) (ts : List Token) (y : V × List Token) → P us f → more (next ts) ≡ true → part f ts ≡ Ok y → (vs : List Token) × (ts ≡ vs ++ y.1) × P (us ++ vs) y.0)
@@ -140,7 +151,7 @@ turns-found {V} P more part step (suc n) us f ts x d e = elim (cases_Bool (more 
       let w = bind_ok (part f ts) (λ y. turns more part n y.0 y.1) x k in
       let v = step us f ts w.0 d h w.1 in
       let r = turns-found P more part step n (us ++ v.0) w.0.0 w.0.1 x v.2 w.2 in
-      (v.0 ++ r.0, v.1 ∙ ap (λ z. v.0 ++ z) r.1 ∙ sym (append_assoc v.0 r.0 x.1), subst (λ z. P z x.0) (append_assoc us v.0 r.0) r.2))
+      joined P us v.0 r.0 ts w.0.1 x v.1 r.1 r.2)
   | inr h ↦ (let k = rw h at e in let q = ok_is (f, ts) x k in
       subst (λ (y : V × List Token). (vs : List Token) × (ts ≡ vs ++ y.1) × P (us ++ vs) y.0) q ([], refl, subst (λ w. P w f) (sym (append-nil us)) d))
 ]
@@ -165,14 +176,10 @@ module _ (s : Setting) (n : ℕ) (bracket : Reader) (opens : FindsOpen s n brack
       → t.kind ≡ k → exponent_at s at f (Some k) (t ∷ us) ≡ Ok x → Found s Power n (front ++ h ∷ t ∷ us) x
   exponent_at-found front h f at (kinds.Number m) t us x d eh et e =
       let g = guard_ok (nat_le 1 m && nat_le m 64) (raised s.field at f (m - 1) f >>= λ g. Ok (g, us)) (errors.Expected t.from) x e in
-      let b = both_true (nat_le 1 m) (nat_le m 64) g.0 in
+      let b = both_tests (nat_le 1 m) (nat_le m 64) g.0 in
       let w = bind_ok (raised s.field at f (m - 1) f) (λ g. Ok (g, us)) x g.1 in
       found_at s Power n (front ++ h ∷ t ∷ us) us w.0 (front ++ h ∷ t ∷ []) (sym (append_assoc front (h ∷ t ∷ []) us))
       (grammar.a_power n m h t front f w.0 d eh et (leb-true 1 m b.0) (leb-true m 64 b.1) (λ c. raised-any s.field at c f (m - 1) f w.0 w.1)) x (ok_is (w.0, us) x w.2)
-    where
-      both_true : (a b : Bool) → (a && b) ≡ true → (a ≡ true) × (b ≡ true)
-      both_true true b e = (refl, e)
-      both_true false b e = absurd cc
   exponent_at-found front h f at _ t us x d eh et e = absurd cc
 
 either_way : {A : Type 0} (b : Bool) (r q : Result A SyntaxError) (P : A → Type 0) → (b ≡ true → (x : A) → r ≡ Ok x → P x) → (b ≡ false → (x : A) → q ≡ Ok x → P x) → (x : A) → cond b r q ≡ Ok x → P x
@@ -212,7 +219,7 @@ module _ (s : Setting) (n : ℕ) (bracket : Reader) (opens : FindsOpen s n brack
       subst (λ (z : Poly × List Token). (vs : List Token) × (ts ≡ vs ++ z.1) × Denotes s.field s.letters Juxt n (us ++ vs) z.0) q
       (b.front, b.whole, grammar.beside n us b.front f u.0.0 v.0 d b.denotes (λ c. times-any s.field (place s ts) c f u.0.0 v.0 v.1)))
       (length w.0.1) a.front w.0.0 w.0.1 x (grammar.one_power n a.front w.0.0 a.denotes) w.2 in
-      record { front = a.front ++ r.0; whole = a.whole ∙ ap (λ z. a.front ++ z) r.1 ∙ sym (append_assoc a.front r.0 x.1); denotes = r.2 }
+      found_then s Juxt n ts w.0.1 a.front r.0 x a.whole r.1 r.2
 
   -- behind a token of which a test is true
   star_part : (us : List Token) (f : Poly) (ts : List Token) (y : Poly × List Token) → Denotes s.field s.letters Jordan n us f → is_star (next ts) ≡ true → star s bracket f ts ≡ Ok y
@@ -234,7 +241,7 @@ module _ (s : Setting) (n : ℕ) (bracket : Reader) (opens : FindsOpen s n brack
       let a = juxt-found ts w.0 w.1 in
       let r = turns-found (λ us f. Denotes s.field s.letters Jordan n us f) is_star (star s bracket) star_part
       (length w.0.1) a.front w.0.0 w.0.1 x (grammar.one_juxt n a.front w.0.0 a.denotes) w.2 in
-      record { front = a.front ++ r.0; whole = a.whole ∙ ap (λ z. a.front ++ z) r.1 ∙ sym (append_assoc a.front r.0 x.1); denotes = r.2 }
+      found_then s Jordan n ts w.0.1 a.front r.0 x a.whole r.1 r.2
 
   product_found : (ts : List Token) (x : Poly × List Token) → jprod s bracket ts ≡ Ok x → Found s Term n ts x
   product_found ts x e = let a = jprod-found ts x e in record { front = a.front; whole = a.whole; denotes = grammar.a_product n a.front x.0 a.denotes }
@@ -300,68 +307,108 @@ module _ (s : Setting) (n : ℕ) (bracket : Reader) (opens : FindsOpen s n brack
       let a = first-found ts w.0 w.1 in
       let r = turns-found (λ us f. Denotes s.field s.letters Sum n us f) is_sign (signed s bracket) signed_part
       (length w.0.1) a.front w.0.0 w.0.1 x a.denotes w.2 in
-      record { front = a.front ++ r.0; whole = a.whole ∙ ap (λ z. a.front ++ z) r.1 ∙ sym (append_assoc a.front r.0 x.1); denotes = r.2 }
+      found_then s Sum n ts w.0.1 a.front r.0 x a.whole r.1 r.2
 
-pub regroup_one : (us rest : List Token) (c : Token) → (us ++ c ∷ []) ++ rest ≡ us ++ (c ∷ rest)
-regroup_one us rest c = append_assoc us (c ∷ []) rest
+-- a sum was read, and a mark behind it
+record SumAnd (s : Setting) (n : ℕ) (is : Option TokenKind → Bool) (ts : List Token) (f : Poly) (us : List Token) : Type 0 where
+  front : List Token
+  mark : Token
+  whole : ts ≡ front ++ (mark ∷ us)
+  denotes : Denotes s.field s.letters Sum n front f
+  shows : is (Some mark.kind) ≡ true
 
-regroup_two : (us vs rest : List Token) (a c : Token) → (us ++ a ∷ vs ++ c ∷ []) ++ rest ≡ us ++ (a ∷ (vs ++ (c ∷ rest)))
-regroup_two us vs rest a c = append_assoc (us ++ a ∷ vs) (c ∷ []) rest ∙ append_assoc us (a ∷ vs) (c ∷ rest)
-
-regroup_three : (us vs ws rest : List Token) (a b c : Token) → (us ++ a ∷ vs ++ b ∷ ws ++ c ∷ []) ++ rest ≡ us ++ (a ∷ (vs ++ (b ∷ (ws ++ (c ∷ rest)))))
-regroup_three us vs ws rest a b c =
-    append_assoc (us ++ a ∷ vs ++ b ∷ ws) (c ∷ []) rest ∙ append_assoc (us ++ a ∷ vs) (b ∷ ws) (c ∷ rest) ∙ append_assoc us (a ∷ vs) (b ∷ (ws ++ (c ∷ rest)))
+comma_next : (s : Setting) (ts : List Token) → is_comma (next ts) ≡ true → must s is_comma ts ≡ Ok (after ts)
+comma_next s ts h = rw h refl
 
 module _ (s : Setting) (n : ℕ) (inside : Reader) (finds : Finds s Sum n inside) (o : Token) where
-  round-found : (ts : List Token) (x : Poly × List Token) → o.kind ≡ kinds.Open → round s inside o.from ts ≡ Ok x → Found s Atom (suc n) (o ∷ ts) x
-  unfolding round two_more
-  round-found ts x eo e =
-      let a = bind_ok (inside ts) (λ y. cond (is_comma (next y.1)) (two_more s inside o.from y.0 (after y.1)) (must s is_close y.1 >>= λ us. Ok (y.0, us))) x e in
-      let fa = finds ts a.0 a.1 in
-      let behind : (w : List Token) → w ≡ a.0.1 → cond (is_comma (next w)) (two_more s inside o.from a.0.0 (after w)) (must s is_close w >>= λ us. Ok (a.0.0, us)) ≡ Ok x → Found s Atom (suc n) (o ∷ ts) x =
-      λ w q h. either_way (is_comma (next w)) (two_more s inside o.from a.0.0 (after w)) (must s is_close w >>= λ us. Ok (a.0.0, us)) (λ z. Found s Atom (suc n) (o ∷ ts) z)
-      (λ c z k.
-      let comma : must s is_comma w ≡ Ok (after w) = rw c refl in
-      let ca = must-found s.end is_comma w (after w) refl comma in
-      let b = bind_ok (inside (after w)) (λ y. must s is_comma y.1 >>= λ us. inside us >>= λ z. associator s.field o.from a.0.0 y.0 z.0 >>= λ g. must s is_close z.1 >>= λ vs. Ok (g, vs)) z k in
-      let fb = finds (after w) b.0 b.1 in
-      let m = bind_ok (must s is_comma b.0.1) (λ us. inside us >>= λ z. associator s.field o.from a.0.0 b.0.0 z.0 >>= λ g. must s is_close z.1 >>= λ vs. Ok (g, vs)) z b.2 in
-      let cb = must-found s.end is_comma b.0.1 m.0 refl m.1 in
-      let d = bind_ok (inside m.0) (λ z. associator s.field o.from a.0.0 b.0.0 z.0 >>= λ g. must s is_close z.1 >>= λ vs. Ok (g, vs)) z m.2 in
-      let fd = finds m.0 d.0 d.1 in
-      let g = bind_ok (associator s.field o.from a.0.0 b.0.0 d.0.0) (λ g. must s is_close d.0.1 >>= λ vs. Ok (g, vs)) z d.2 in
-      let v = bind_ok (must s is_close d.0.1) (λ vs. Ok (g.0, vs)) z g.2 in
-      let cd = must-found s.end is_close d.0.1 v.0 refl v.1 in
-      let whole : ts ≡ fa.front ++ (ca.0 ∷ (fb.front ++ (cb.0 ∷ (fd.front ++ (cd.0 ∷ v.0))))) =
-      fa.whole ∙ ap (λ y. fa.front ++ y) (sym q ∙ ca.1 ∙ ap (λ y. ca.0 ∷ y) (fb.whole ∙ ap (λ y. fb.front ++ y) (cb.1 ∙ ap (λ y. cb.0 ∷ y) (fd.whole ∙ ap (λ y. fd.front ++ y) cd.1)))) in
-      found_at s Atom (suc n) (o ∷ ts) v.0 g.0 (o ∷ fa.front ++ ca.0 ∷ fb.front ++ cb.0 ∷ fd.front ++ cd.0 ∷ [])
-      (ap (λ y. o ∷ y) (whole ∙ sym (regroup_three fa.front fb.front fd.front v.0 ca.0 cb.0 cd.0)))
-      (grammar.an_associator n o ca.0 cb.0 cd.0 fa.front fb.front fd.front a.0.0 b.0.0 d.0.0 g.0 eo fa.denotes (comma_is ca.0.kind ca.2) fb.denotes (comma_is cb.0.kind cb.2) fd.denotes (close_is cd.0.kind cd.2)
-      (λ j. associator-any s.field o.from j a.0.0 b.0.0 d.0.0 g.0 g.1)) z (ok_is (g.0, v.0) z v.2))
-      (λ c z k.
-      let v = bind_ok (must s is_close w) (λ us. Ok (a.0.0, us)) z k in
-      let cd = must-found s.end is_close w v.0 refl v.1 in
-      found_at s Atom (suc n) (o ∷ ts) v.0 a.0.0 (o ∷ fa.front ++ cd.0 ∷ [])
-      (ap (λ y. o ∷ y) (fa.whole ∙ ap (λ y. fa.front ++ y) (sym q ∙ cd.1) ∙ sym (regroup_one fa.front v.0 cd.0)))
-      (grammar.in_round n o cd.0 fa.front a.0.0 eo fa.denotes (close_is cd.0.kind cd.2)) z (ok_is (a.0.0, v.0) z v.2)) x h in
-      behind a.0.1 refl a.2
+  sum_and : (is : Option TokenKind → Bool) (ts us : List Token) (x : Poly × List Token) → is None ≡ false → inside ts ≡ Ok x → must s is x.1 ≡ Ok us → SumAnd s n is ts x.0 us
+  sum_and is ts us x none e m =
+      let a = finds ts x e in
+      let c = must-found s.end is x.1 us none m in
+      record { front = a.front; mark = c.0; whole = a.whole ∙ ap (λ y. a.front ++ y) c.1; denotes = a.denotes; shows = c.2 }
 
-  square-found : (ts : List Token) (x : Poly × List Token) → o.kind ≡ kinds.SquareOpen → square s inside o.from ts ≡ Ok x → Found s Atom (suc n) (o ∷ ts) x
+  in_round : (ts rest : List Token) (f : Poly) → o.kind ≡ kinds.Open → SumAnd s n is_close ts f rest → Found s Atom (suc n) (o ∷ ts) (f, rest)
+  in_round ts rest f eo c = record {
+    front = o ∷ c.front ++ c.mark ∷ [];
+    whole = ap (λ y. o ∷ y) (between_one ts c.front rest c.mark c.whole);
+    denotes = grammar.in_round n o c.mark c.front f eo c.denotes (close_is c.mark.kind c.shows);
+  }
+
+  an_associator : (ts us vs rest : List Token) (x y z f : Poly) → o.kind ≡ kinds.Open → SumAnd s n is_comma ts x us → SumAnd s n is_comma us y vs → SumAnd s n is_close vs z rest
+      → associator s.field o.from x y z ≡ Ok f → Found s Atom (suc n) (o ∷ ts) (f, rest)
+  an_associator ts us vs rest x y z f eo a b c made = record {
+    front = o ∷ a.front ++ a.mark ∷ b.front ++ b.mark ∷ c.front ++ c.mark ∷ [];
+    whole = ap (λ y. o ∷ y) (between_three ts a.front us b.front vs c.front rest a.mark b.mark c.mark a.whole b.whole c.whole);
+    denotes = grammar.an_associator n o a.mark b.mark c.mark a.front b.front c.front x y z f eo a.denotes (comma_is a.mark.kind a.shows) b.denotes (comma_is b.mark.kind b.shows) c.denotes
+        (close_is c.mark.kind c.shows) (λ j. associator-any s.field o.from j x y z f made);
+  }
+
+  a_commutator : (ts us rest : List Token) (x y f : Poly) → o.kind ≡ kinds.SquareOpen → SumAnd s n is_comma ts x us → SumAnd s n is_square_close us y rest
+      → commutator s.field o.from x y ≡ Ok f → Found s Atom (suc n) (o ∷ ts) (f, rest)
+  a_commutator ts us rest x y f eo a c made = record {
+    front = o ∷ a.front ++ a.mark ∷ c.front ++ c.mark ∷ [];
+    whole = ap (λ y. o ∷ y) (between_two ts a.front us c.front rest a.mark c.mark a.whole c.whole);
+    denotes = grammar.a_commutator n o a.mark c.mark a.front c.front x y f eo a.denotes (comma_is a.mark.kind a.shows) c.denotes (square_close_is c.mark.kind c.shows)
+        (λ j. commutator-any s.field o.from j x y f made);
+  }
+
+  -- behind the third polynomial of an associator, behind the second, and behind the first
+  third_behind : (ts us vs : List Token) (x y : Poly) (z r : Poly × List Token) → o.kind ≡ kinds.Open → SumAnd s n is_comma ts x us → SumAnd s n is_comma us y vs → inside vs ≡ Ok z
+      → (associator s.field o.from x y z.0 >>= λ g. must s is_close z.1 >>= λ ws. Ok (g, ws)) ≡ Ok r → Found s Atom (suc n) (o ∷ ts) r
+  third_behind ts us vs x y z r eo a b i e =
+      let g = bind_ok (associator s.field o.from x y z.0) (λ g. must s is_close z.1 >>= λ ws. Ok (g, ws)) r e in
+      let v = bind_ok (must s is_close z.1) (λ ws. Ok (g.0, ws)) r g.2 in
+      subst (λ (q : Poly × List Token). Found s Atom (suc n) (o ∷ ts) q) (ok_is (g.0, v.0) r v.2)
+      (an_associator ts us vs v.0 x y z.0 g.0 eo a b (sum_and is_close vs v.0 z refl i v.1) g.1)
+
+  second_behind : (ts us : List Token) (x : Poly) (y r : Poly × List Token) → o.kind ≡ kinds.Open → SumAnd s n is_comma ts x us → inside us ≡ Ok y
+      → (must s is_comma y.1 >>= λ vs. inside vs >>= λ z. associator s.field o.from x y.0 z.0 >>= λ g. must s is_close z.1 >>= λ ws. Ok (g, ws)) ≡ Ok r → Found s Atom (suc n) (o ∷ ts) r
+  second_behind ts us x y r eo a i e =
+      let m = bind_ok (must s is_comma y.1) (λ vs. inside vs >>= λ z. associator s.field o.from x y.0 z.0 >>= λ g. must s is_close z.1 >>= λ ws. Ok (g, ws)) r e in
+      let z = bind_ok (inside m.0) (λ z. associator s.field o.from x y.0 z.0 >>= λ g. must s is_close z.1 >>= λ ws. Ok (g, ws)) r m.2 in
+      third_behind ts us m.0 x y.0 z.0 r eo a (sum_and is_comma us m.0 y refl i m.1) z.1 z.2
+
+  two_more-found : (ts us : List Token) (x : Poly) (r : Poly × List Token) → o.kind ≡ kinds.Open → SumAnd s n is_comma ts x us → two_more s inside o.from x us ≡ Ok r → Found s Atom (suc n) (o ∷ ts) r
+  unfolding two_more
+  two_more-found ts us x r eo a e =
+      let y = bind_ok (inside us) (λ y. must s is_comma y.1 >>= λ vs. inside vs >>= λ z. associator s.field o.from x y.0 z.0 >>= λ g. must s is_close z.1 >>= λ ws. Ok (g, ws)) r e in
+      second_behind ts us x y.0 r eo a y.1 y.2
+
+  first_behind : (ts : List Token) (x r : Poly × List Token) → o.kind ≡ kinds.Open → inside ts ≡ Ok x
+      → cond (is_comma (next x.1)) (two_more s inside o.from x.0 (after x.1)) (must s is_close x.1 >>= λ us. Ok (x.0, us)) ≡ Ok r → Found s Atom (suc n) (o ∷ ts) r
+  first_behind ts x r eo i e =
+      either_way (is_comma (next x.1)) (two_more s inside o.from x.0 (after x.1)) (must s is_close x.1 >>= λ us. Ok (x.0, us)) (λ q. Found s Atom (suc n) (o ∷ ts) q)
+      (λ c q k. two_more-found ts (after x.1) x.0 q eo (sum_and is_comma ts (after x.1) x refl i (comma_next s x.1 c)) k)
+      (λ c q k. let v = bind_ok (must s is_close x.1) (λ us. Ok (x.0, us)) q k in
+      subst (λ (w : Poly × List Token). Found s Atom (suc n) (o ∷ ts) w) (ok_is (x.0, v.0) q v.2) (in_round ts v.0 x.0 eo (sum_and is_close ts v.0 x refl i v.1))) r e
+
+  round-found : (ts : List Token) (r : Poly × List Token) → o.kind ≡ kinds.Open → round s inside o.from ts ≡ Ok r → Found s Atom (suc n) (o ∷ ts) r
+  unfolding round
+  round-found ts r eo e =
+      let x = bind_ok (inside ts) (λ y. cond (is_comma (next y.1)) (two_more s inside o.from y.0 (after y.1)) (must s is_close y.1 >>= λ us. Ok (y.0, us))) r e in
+      first_behind ts x.0 r eo x.1 x.2
+
+  -- behind the second polynomial of a commutator
+  last_behind : (ts us : List Token) (x : Poly) (y r : Poly × List Token) → o.kind ≡ kinds.SquareOpen → SumAnd s n is_comma ts x us → inside us ≡ Ok y
+      → (commutator s.field o.from x y.0 >>= λ g. must s is_square_close y.1 >>= λ vs. Ok (g, vs)) ≡ Ok r → Found s Atom (suc n) (o ∷ ts) r
+  last_behind ts us x y r eo a i e =
+      let g = bind_ok (commutator s.field o.from x y.0) (λ g. must s is_square_close y.1 >>= λ vs. Ok (g, vs)) r e in
+      let v = bind_ok (must s is_square_close y.1) (λ vs. Ok (g.0, vs)) r g.2 in
+      subst (λ (q : Poly × List Token). Found s Atom (suc n) (o ∷ ts) q) (ok_is (g.0, v.0) r v.2)
+      (a_commutator ts us v.0 x y.0 g.0 eo a (sum_and is_square_close us v.0 y refl i v.1) g.1)
+
+  comma_behind : (ts : List Token) (x r : Poly × List Token) → o.kind ≡ kinds.SquareOpen → inside ts ≡ Ok x
+      → (must s is_comma x.1 >>= λ us. inside us >>= λ y. commutator s.field o.from x.0 y.0 >>= λ g. must s is_square_close y.1 >>= λ vs. Ok (g, vs)) ≡ Ok r → Found s Atom (suc n) (o ∷ ts) r
+  comma_behind ts x r eo i e =
+      let m = bind_ok (must s is_comma x.1) (λ us. inside us >>= λ y. commutator s.field o.from x.0 y.0 >>= λ g. must s is_square_close y.1 >>= λ vs. Ok (g, vs)) r e in
+      let y = bind_ok (inside m.0) (λ y. commutator s.field o.from x.0 y.0 >>= λ g. must s is_square_close y.1 >>= λ vs. Ok (g, vs)) r m.2 in
+      last_behind ts m.0 x.0 y.0 r eo (sum_and is_comma ts m.0 x refl i m.1) y.1 y.2
+
+  square-found : (ts : List Token) (r : Poly × List Token) → o.kind ≡ kinds.SquareOpen → square s inside o.from ts ≡ Ok r → Found s Atom (suc n) (o ∷ ts) r
   unfolding square
-  square-found ts x eo e =
-      let a = bind_ok (inside ts) (λ y. must s is_comma y.1 >>= λ us. inside us >>= λ z. commutator s.field o.from y.0 z.0 >>= λ g. must s is_square_close z.1 >>= λ vs. Ok (g, vs)) x e in
-      let fa = finds ts a.0 a.1 in
-      let m = bind_ok (must s is_comma a.0.1) (λ us. inside us >>= λ z. commutator s.field o.from a.0.0 z.0 >>= λ g. must s is_square_close z.1 >>= λ vs. Ok (g, vs)) x a.2 in
-      let ca = must-found s.end is_comma a.0.1 m.0 refl m.1 in
-      let d = bind_ok (inside m.0) (λ z. commutator s.field o.from a.0.0 z.0 >>= λ g. must s is_square_close z.1 >>= λ vs. Ok (g, vs)) x m.2 in
-      let fd = finds m.0 d.0 d.1 in
-      let g = bind_ok (commutator s.field o.from a.0.0 d.0.0) (λ g. must s is_square_close d.0.1 >>= λ vs. Ok (g, vs)) x d.2 in
-      let v = bind_ok (must s is_square_close d.0.1) (λ vs. Ok (g.0, vs)) x g.2 in
-      let cd = must-found s.end is_square_close d.0.1 v.0 refl v.1 in
-      found_at s Atom (suc n) (o ∷ ts) v.0 g.0 (o ∷ fa.front ++ ca.0 ∷ fd.front ++ cd.0 ∷ [])
-      (ap (λ y. o ∷ y) (fa.whole ∙ ap (λ y. fa.front ++ y) (ca.1 ∙ ap (λ y. ca.0 ∷ y) (fd.whole ∙ ap (λ y. fd.front ++ y) cd.1)) ∙ sym (regroup_two fa.front fd.front v.0 ca.0 cd.0)))
-      (grammar.a_commutator n o ca.0 cd.0 fa.front fd.front a.0.0 d.0.0 g.0 eo fa.denotes (comma_is ca.0.kind ca.2) fd.denotes (square_close_is cd.0.kind cd.2)
-      (λ j. commutator-any s.field o.from j a.0.0 d.0.0 g.0 g.1)) x (ok_is (g.0, v.0) x v.2)
+  square-found ts r eo e =
+      let x = bind_ok (inside ts) (λ x. must s is_comma x.1 >>= λ us. inside us >>= λ y. commutator s.field o.from x.0 y.0 >>= λ g. must s is_square_close y.1 >>= λ vs. Ok (g, vs)) r e in
+      comma_behind ts x.0 r eo x.1 x.2
 
 bracketed-found : (s : Setting) (n : ℕ) → FindsOpen s n (bracketed s n)
 unfolding bracketed
@@ -369,7 +416,8 @@ bracketed-found s zero t ts x k e = absurd cc
 bracketed-found s (suc n) t ts x (inl k) e = round-found s n (poly s (bracketed s n)) (poly-found s n (bracketed s n) (bracketed-found s n)) t ts x k (rw k at e)
 bracketed-found s (suc n) t ts x (inr k) e = square-found s n (poly s (bracketed s n)) (poly-found s n (bracketed s n) (bracketed-found s n)) t ts x k (rw k at e)
 
-ended_nil : (g f : Poly) (ts : List Token) → ended g ts ≡ Ok f → (ts ≡ []) × (g ≡ f)
+-- no token is left behind the value
+pub ended_nil : {V : Type 0} (g f : V) (ts : List Token) → ended g ts ≡ Ok f → (ts ≡ []) × (g ≡ f)
 ended_nil g f [] e = (refl, ok_is g f e)
 ended_nil g f (t ∷ ts) e = absurd cc
 

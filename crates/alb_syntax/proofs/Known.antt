@@ -16,11 +16,11 @@ use Rattle.alb_poly.proofs.NormalLemmas.{normal-each}
 use Rattle.alb_poly.proofs.Products.{product-each}
 use Rattle.alb_syntax.specs.declared.error.SyntaxError.{SyntaxError}
 use Rattle.alb_syntax.specs.declared.error.SyntaxError.TheVariants as errors
-use Rattle.alb_syntax.specs.Gives.{◌>>=◌}
+use Rattle.alb_lex.specs.Results.{◌>>=◌}
 use Rattle.alb_syntax.specs.Operations.{within, sum, difference, times, multiple, associator, commutator, jordan, raised}
 use Rattle.alb_syntax.specs.Grammar.{Class, Denotes, Atom, Power, Juxt, Jordan, Term, Sum}
 use Rattle.alb_syntax.specs.Grammar as grammar
-use Rattle.alb_syntax.proofs.Binds.{bind_ok, ok_is}
+use Rattle.alb_lex.proofs.Binds.{bind_ok, ok_is}
 
 -- every generator is below `n`
 abbrev Knows : ℕ → Poly → Type 0

@@ -3,6 +3,7 @@ pub mod Kept
 pub mod Loose
 pub mod Powers
 pub mod Turns
+pub mod Regroups
 pub mod Shrinks
 pub mod Again
 pub mod Found

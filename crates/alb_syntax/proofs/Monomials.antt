@@ -11,14 +11,16 @@ use Rattle.alb_mono.specs.Mono.{tree}
 use Rattle.alb_mono.specs.Tree.{Tree, leaf, node, degree, are_below}
 use Rattle.alb_mono.specs.declared.mono.Mono.{Mono}
 use Rattle.alb_syntax.specs.declared.error.SyntaxError.{SyntaxError}
-use Rattle.alb_syntax.specs.Gives.{◌>>=◌, Gives}
+use Rattle.alb_lex.specs.Results.{◌>>=◌}
+use Rattle.alb_syntax.specs.Gives.{Gives}
 use Rattle.alb_syntax.specs.Reading.{ReadingOf, ReaderOf, next, after, place_or, must_or, is_close, each, ended}
 use Rattle.alb_syntax.specs.Monomials.{Lettering, begins_part, named, part_at, part, joined, next_part, mono, enclosed, nested, mono_denoted, Shape, Part, Product, Spells}
 use Rattle.alb_syntax.specs.Monomials as grammar
-use Rattle.alb_syntax.proofs.Binds.{bind_ok, ok_is}
+use Rattle.alb_lex.proofs.Binds.{bind_ok, ok_is}
 use Rattle.alb_syntax.proofs.Turns.{Shrinks, IsPart, each-less, each-step, each-stops}
 use Rattle.alb_syntax.proofs.Shrinks.{after-less, after-shorter, ok_rest, must-less}
-use Rattle.alb_syntax.proofs.Found.{turns-found, must-found, close_is, regroup_one}
+use Rattle.alb_syntax.proofs.Found.{turns-found, must-found, close_is, ended_nil}
+use Rattle.alb_syntax.proofs.Regroups.{regroup_one}
 
 -- ---- what is read takes a token
 
@@ -136,6 +138,9 @@ SpellingOpen s n bracket = (t : Token) (ts : List Token) (x : Tree × List Token
 spelled_at : (s : Lettering) (c : Shape) (n : ℕ) (ts us : List Token) (m : Tree) (front : List Token) → ts ≡ front ++ us → Spells s.letters c n front m → (x : Tree × List Token) → (m, us) ≡ x → Spelled s c n ts x
 spelled_at s c n ts us m front w d x e = subst (λ (y : Tree × List Token). Spelled s c n ts y) e (record { front = front; whole = w; spells = d })
 
+spelled_then : (s : Lettering) (c : Shape) (n : ℕ) (ts mid us vs : List Token) (x : Tree × List Token) → ts ≡ us ++ mid → mid ≡ vs ++ x.1 → Spells s.letters c n (us ++ vs) x.0 → Spelled s c n ts x
+spelled_then s c n ts mid us vs x p q d = record { front = us ++ vs; whole = p ∙ ap (λ z. us ++ z) q ∙ sym (append_assoc us vs x.1); spells = d }
+
 joined-is : (at : ℕ) (l r m : Tree) → joined at l r ≡ Ok m → (degree l + degree r ≤ 64) × (node l r ≡ m)
 unfolding joined
 joined-is at l r m e = elim (cases_Bool (nat_lt 64 (degree l + degree r))) [
@@ -177,7 +182,7 @@ module _ (s : Lettering) (n : ℕ) (bracket : ReaderOf Tree) (opens : SpellingOp
       let a = part-spelled ts w.0 w.1 in
       let r = turns-found (λ us m. Spells s.letters Product n us m) begins_part (next_part s bracket) next_part-spelled
       (length w.0.1) a.front w.0.0 w.0.1 x (grammar.one_part n a.front w.0.0 a.spells) w.2 in
-      record { front = a.front ++ r.0; whole = a.whole ∙ ap (λ z. a.front ++ z) r.1 ∙ sym (append_assoc a.front r.0 x.1); spells = r.2 }
+      spelled_then s Product n ts w.0.1 a.front r.0 x a.whole r.1 r.2
 
 nested-spelled : (s : Lettering) (n : ℕ) → SpellingOpen s n (nested s n)
 unfolding nested enclosed
@@ -191,16 +196,12 @@ nested-spelled s (suc n) t ts x k e =
     (ap (λ y. t ∷ y) (fa.whole ∙ ap (λ y. fa.front ++ y) cd.1 ∙ sym (regroup_one fa.front v.0 cd.0)))
     (grammar.in_brackets n t cd.0 fa.front a.0.0 k fa.spells (close_is cd.0.kind cd.2)) x (ok_is (a.0.0, v.0) x v.2)
 
-ended-nil : (l m : Tree) (ts : List Token) → ended l ts ≡ Ok m → (ts ≡ []) × (l ≡ m)
-ended-nil l m [] e = (refl, ok_is l m e)
-ended-nil l m (t ∷ ts) e = absurd cc
-
 pub mono_denoted-spelled : (s : Lettering) (ts : List Token) (m : Tree) → mono_denoted s ts ≡ Ok m → Spells s.letters Product 64 ts m
 unfolding mono_denoted
 mono_denoted-spelled s ts m e =
     let w = bind_ok (mono s (nested s 64) ts) (λ x. ended x.0 x.1) m e in
     let a = mono-spelled s 64 (nested s 64) (nested-spelled s 64) ts w.0 w.1 in
-    let n = ended-nil w.0.0 m w.0.1 w.2 in
+    let n = ended_nil w.0.0 m w.0.1 w.2 in
     let q : ts ≡ a.front = a.whole ∙ ap (λ y. a.front ++ y) n.0 ∙ append-nil a.front in
     subst (λ g. Spells s.letters Product 64 ts g) n.1 (subst (λ y. Spells s.letters Product 64 y w.0.0) (sym q) a.spells)
 

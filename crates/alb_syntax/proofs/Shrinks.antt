@@ -7,10 +7,10 @@ use Rattle.alb_lex.specs.declared.token.TokenKind.TheVariants as kinds
 use Rattle.alb_poly.specs.Poly.{Poly}
 use Rattle.alb_syntax.specs.declared.error.SyntaxError.{SyntaxError}
 use Rattle.alb_syntax.specs.declared.error.SyntaxError.TheVariants as errors
-use Rattle.alb_syntax.specs.Gives.{◌>>=◌}
+use Rattle.alb_lex.specs.Results.{◌>>=◌}
 use Rattle.alb_syntax.specs.Operations.{sum, difference, times, multiple, associator, commutator, jordan, raised}
 use Rattle.alb_syntax.specs.Reading.{Setting, ReadingOf, Reading, Reader, next, after, place, place_or, unexpected, must, must_or, is_plus, is_sign, is_star, is_comma, is_open, is_close, is_square_close, begins_atom, each, letter, atom_at, atom, exponent_at, exponent, is_caret, power, factor, juxt, star, jprod, numbered, term_at, term, first_at, first, signed, poly, two_more, round, square, bracketed}
-use Rattle.alb_syntax.proofs.Binds.{bind_ok, guard_ok, ok_is}
+use Rattle.alb_lex.proofs.Binds.{bind_ok, guard_ok, ok_is}
 use Rattle.alb_syntax.proofs.Turns.{Shrinks, IsPart, each-less, each-stops}
 
 pub after-less : (ts : List Token) → length (after ts) ≤ length ts

@@ -4,9 +4,11 @@ use Rattle.std.proofs.lemmas.Bool.{cases_Bool}
 use Rattle.alb_lex.specs.declared.token.Token.{Token}
 use Rattle.alb_lex.specs.declared.token.TokenKind.{TokenKind}
 use Rattle.alb_syntax.specs.declared.error.SyntaxError.{SyntaxError}
-use Rattle.alb_syntax.specs.Gives.{◌>>=◌, Fails}
+use Rattle.alb_lex.specs.Results.{◌>>=◌}
+use Rattle.alb_syntax.specs.Gives.{Fails}
 use Rattle.alb_syntax.specs.Reading.{ReadingOf, ReaderOf, next, turns, each}
-use Rattle.alb_syntax.proofs.Binds.{bind_ok, Fails-bind}
+use Rattle.alb_lex.proofs.Binds.{bind_ok}
+use Rattle.alb_syntax.proofs.Binds.{Fails-bind}
 
 -- what is read takes at least one token
 pub record Shrinks {V : Type 0} (read : ReaderOf V) : Type 0 where

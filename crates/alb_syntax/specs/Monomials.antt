@@ -6,7 +6,7 @@ use Rattle.alb_lex.specs.declared.token.TokenKind.TheVariants as kinds
 use Rattle.alb_mono.specs.Tree.{Tree, leaf, node, degree}
 use Rattle.alb_syntax.specs.declared.error.SyntaxError.{SyntaxError}
 use Rattle.alb_syntax.specs.declared.error.SyntaxError.TheVariants as errors
-use Rattle.alb_syntax.specs.Gives.{◌>>=◌}
+use Rattle.alb_lex.specs.Results.{◌>>=◌}
 use Rattle.alb_syntax.specs.Reading.{ReaderOf, next, after, place_or, must_or, is_close, each, ended}
 
 -- what a monomial is read by: the letters of the generators, and the end place of the text

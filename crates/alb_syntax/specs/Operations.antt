@@ -8,7 +8,7 @@ use Rattle.alb_poly.specs.Poly.{Poly, AreResidues, product}
 use Rattle.alb_poly.specs.Normal.{normal}
 use Rattle.alb_syntax.specs.declared.error.SyntaxError.{SyntaxError}
 use Rattle.alb_syntax.specs.declared.error.SyntaxError.TheVariants as errors
-use Rattle.alb_syntax.specs.Gives.{◌>>=◌}
+use Rattle.alb_lex.specs.Results.{◌>>=◌}
 
 -- What every polynomial is that is read: p is in the table of fields, and over p elements it descends without zeros and has
 -- at most 65,536 terms.

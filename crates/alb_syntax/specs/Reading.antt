@@ -7,7 +7,7 @@ use Rattle.alb_lex.specs.declared.token.TokenKind.TheVariants as kinds
 use Rattle.alb_poly.specs.Poly.{Poly, generator}
 use Rattle.alb_syntax.specs.declared.error.SyntaxError.{SyntaxError}
 use Rattle.alb_syntax.specs.declared.error.SyntaxError.TheVariants as errors
-use Rattle.alb_syntax.specs.Gives.{◌>>=◌}
+use Rattle.alb_lex.specs.Results.{◌>>=◌}
 use Rattle.alb_syntax.specs.Operations.{sum, difference, times, multiple, associator, commutator, jordan, raised}
 
 -- what a text is read by: the field, the letters of the generators, and the end place of the text

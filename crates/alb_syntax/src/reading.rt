@@ -9,7 +9,7 @@ ghost use Rattle.alb_syntax.specs.Grammar.{Denotes, Sum};
 ghost use Rattle.alb_syntax.specs.Gives.{Gives};
 ghost use Rattle.alb_syntax.specs.Operations.{IsKept, AreLoose};
 ghost use Rattle.alb_syntax.specs.Setting.{setting};
-ghost use Rattle.alb_syntax.specs.Reading.{each, is_sign, bracketed, atom, exponent, power, factor, juxt, star, jprod, term, first, signed, poly, round, square, denoted};
+ghost use Rattle.alb_syntax.specs.Reading.{each, is_sign, bracketed, atom, exponent, power, factor, juxt, star, jprod, term, first, signed, poly, round, two_more, square, denoted};
 
 use crate::error::SyntaxError;
 use crate::setting::{Frame, after, begins_atom, is_sign, is_star, next};
@@ -73,7 +73,7 @@ fn bracket<'a>(
 
 // What stands behind an opening round bracket at `at`: a polynomial, or an associator.
 #[cycle(parser)]
-#[tactic(auto, unfolding(crate::specs::Reading::round, crate::specs::Reading::two_more))]
+#[tactic(auto, unfolding(crate::specs::Reading::round))]
 fn round<'a>(
     alloc: Global,
     s: &Frame,
@@ -87,22 +87,38 @@ fn round<'a>(
     let (x, rest) = poly(alloc, s, left, tokens)?;
     match next(rest) {
         Some(TokenKind::Close) => Ok((x, after(rest))),
-        Some(TokenKind::Comma) => {
-            let (y, rest) = poly(alloc, s, left, after(rest))?;
-            let Some(TokenKind::Comma) = next(rest) else {
-                return Err(SyntaxError::Expected {
-                    place: s.place(rest),
-                });
-            };
-            let (z, rest) = poly(alloc, s, left, after(rest))?;
-            let f = operations::associator(alloc, s.field, at, &x, &y, &z)?;
-            match next(rest) {
-                Some(TokenKind::Close) => Ok((f, after(rest))),
-                _ => Err(SyntaxError::Expected {
-                    place: s.place(rest),
-                }),
-            }
-        }
+        Some(TokenKind::Comma) => two_more(alloc, s, left, at, &x, after(rest)),
+        _ => Err(SyntaxError::Expected {
+            place: s.place(rest),
+        }),
+    }
+}
+
+// What stands behind the first polynomial of an associator and its comma.
+#[cycle(parser)]
+#[tactic(auto, unfolding(crate::specs::Reading::two_more))]
+fn two_more<'a>(
+    alloc: Global,
+    s: &Frame,
+    left: u32,
+    at: u32,
+    x: &Poly,
+    tokens: &'a [Token],
+) -> Result<(Poly, &'a [Token]), SyntaxError>
+    requires { IsKept s.now.field.now x.now }
+    ensures reads { Gives (λ y. (y.0, y.1.now)) result (two_more (setting s.now) (poly (setting s.now) (bracketed (setting s.now) left)) at x.now tokens.now) }
+    ensures kept { IfOk result (λ y. IsKept s.now.field.now y.0) }
+{
+    let (y, rest) = poly(alloc, s, left, tokens)?;
+    let Some(TokenKind::Comma) = next(rest) else {
+        return Err(SyntaxError::Expected {
+            place: s.place(rest),
+        });
+    };
+    let (z, rest) = poly(alloc, s, left, after(rest))?;
+    let f = operations::associator(alloc, s.field, at, x, &y, &z)?;
+    match next(rest) {
+        Some(TokenKind::Close) => Ok((f, after(rest))),
         _ => Err(SyntaxError::Expected {
             place: s.place(rest),
         }),

@@ -52,7 +52,7 @@ vector-scale [] k x j = omega arith
 vector-scale (c ∷ cols) k x zero = coefficient-scale same_tree tree_tells k x c
 vector-scale (c ∷ cols) k x (suc j) = vector-scale cols k x j
 
-vector-alike : {p : ℕ} (cols : List Tree) (x y : Poly) → Alike p x y → (j : ℕ) → IsSameMod p (vector_of cols x j) (vector_of cols y j)
+pub vector-alike : {p : ℕ} (cols : List Tree) (x y : Poly) → Alike p x y → (j : ℕ) → IsSameMod p (vector_of cols x j) (vector_of cols y j)
 vector-alike [] x y h j = same refl
 vector-alike (c ∷ cols) x y h zero = poly_alike h c
 vector-alike (c ∷ cols) x y h (suc j) = vector-alike cols x y h j

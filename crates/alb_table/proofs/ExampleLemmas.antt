@@ -19,7 +19,8 @@ older = first_parts 0 (types_of target 1)
 abbrev pub newer : List PartView
 newer = square_part ∷ mixed_part ∷ []
 
-single : (p first count j : ℕ) → 1 < p → first ≤ j → j < first + count → IsRowAmong p first count ((j, 1) ∷ [])
+-- a row with one cell
+pub single : (p first count j : ℕ) → 1 < p → first ≤ j → j < first + count → IsRowAmong p first count ((j, 1) ∷ [])
 single p first count j h l g = record {
   row = single_row p j h;
   low = All-cons (λ (cell : ℕ × ℕ). first ≤ cell.0) (j, 1) [] l (All-nil _);

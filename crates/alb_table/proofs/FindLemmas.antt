@@ -1,5 +1,5 @@
 -- The part of a type, found by halving.
-use Rattle.std.proofs.Common.{◌≡◌, ℕ, zero, suc, ◌+◌, ◌<◌, ◌≤◌, List, [], ◌∷◌, map, length, get_or, sym, refl, ap, ◌∙◌, arith, inl, inr, ◌⊎◌, subst, Ordering}
+use Rattle.std.proofs.Common.{◌≡◌, ℕ, zero, suc, ◌+◌, ◌<◌, ◌≤◌, List, [], ◌∷◌, map, length, get_or, sym, refl, ap, ◌∙◌, arith, inl, inr, subst, Ordering}
 use Rattle.std.specs.Prelude.{Some, None}
 use Rattle.std.specs.declared.sync.Arc.{Arc}
 use Rattle.std.specs.declared.alloc.Global.{Global}
@@ -11,9 +11,12 @@ use Rattle.alb_mono.proofs.Order.{cmp_types_total}
 use Rattle.alb_table.specs.declared.stored.Stored.{Stored}
 use Rattle.alb_table.specs.PartView.{PartView}
 use Rattle.alb_table.specs.Views.{part_number, view_of}
-use Rattle.alb_table.proofs.PartLemmas.{list_eq-itself, list_eq-other, map_at, no_part, length-views}
+use Rattle.alb_linear.proofs.IdentityLemmas.{list_eq-itself}
+use Rattle.alb_table.proofs.PartLemmas.{list_eq-other, map_at, no_part, length-views}
 use Rattle.alb_table.proofs.RangeLemmas.{ats}
 use Rattle.alb_table.proofs.TypesTo.{apart}
+use Rattle.std.proofs.lemmas.Bool.{cases_lt}
+use Rattle.alb_table.proofs.RiseLemmas.{below_or, from_or}
 
 ascends_at : {X : Type 0} (order : X → X → Ordering) (xs : List X) (i j : ℕ) (d : X) → Ascends order xs → i < j → j < length xs → order (get_or xs i d) (get_or xs j d) ≡ Less
 ascends_at order [] i j d a h l = absurd (omega arith)
@@ -48,12 +51,6 @@ pub record Halves (types : List (List ℕ)) (t : List ℕ) (low high : ℕ) : Ty
 
 pub halves_start : (types : List (List ℕ)) (t : List ℕ) (n : ℕ) → n ≡ length types → Halves types t 0 n
 halves_start types t n e = record { order = omega arith; within = omega arith; below = λ j l. absurd (omega arith); above = λ j h l. absurd (omega arith) }
-
-below_or : (j m : ℕ) → j < m + 1 → (j < m) ⊎ (j ≡ m)
-below_or j m h = grind arith
-
-from_or : (j m : ℕ) → m ≤ j → (m < j) ⊎ (m ≡ j)
-from_or j m h = grind arith
 
 pub halves_low : (types : List (List ℕ)) (t : List ℕ) (low high m : ℕ) → Ascends cmp_types types → Halves types t low high → m < high →
     cmp_types (get_or types m []) t ≡ Less → Halves types t (m + 1) high
@@ -135,10 +132,7 @@ halves_found arcs t low high m a h k l s e q =
 pub halves_none : (arcs : List (Arc Stored Global)) (t : List ℕ) (low high : ℕ) → Halves (ats (map view_of arcs)) t low high → high ≤ low → part_number 0 (map view_of arcs) t ≡ None
 halves_none arcs t low high h l =
     let n : length (ats (map view_of arcs)) ≡ length (map view_of arcs) = length-ats (map view_of arcs) in
-    part_absent 0 (map view_of arcs) t (λ j i e. elim (side j low) [ inl s ↦ h.below j s e | inr s ↦ h.above j (omega arith) (omega arith) e ])
-  where
-    side : (a b : ℕ) → (a < b) ⊎ (b ≤ a)
-    side a b = grind arith
+    part_absent 0 (map view_of arcs) t (λ j i e. elim (cases_lt j low) [ inl s ↦ h.below j s e | inr s ↦ h.above j (omega arith) (omega arith) e ])
 
 -- the length of the type at a place
 pub long_arc : (arcs : List (Arc Stored Global)) (n : ℕ) (i : ℕ) (a : Arc Stored Global) → Each (λ (q : PartView). length q.at ≡ n) (map view_of arcs) → i < length arcs →

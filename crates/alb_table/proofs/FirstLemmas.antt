@@ -67,7 +67,7 @@ units_from z (suc n) =
     let b : map (unit_from z (suc n)) (rising (suc z) n) ≡ map (λ (t : List ℕ). 0 ∷ t) (units n) = shifted z n (suc z) n (omega arith) ∙ ap (map (λ (t : List ℕ). 0 ∷ t)) (units_from (suc z) n) in
     ap (λ (t : List ℕ). t ∷ map (unit_from z (suc n)) (rising (suc z) n)) a ∙ ap (λ (ts : List (List ℕ)). (1 ∷ replicate n 0) ∷ ts) b
 
-length-rising : (k n : ℕ) → length (rising k n) ≡ n
+pub length-rising : (k n : ℕ) → length (rising k n) ≡ n
 length-rising k zero = refl
 length-rising k (suc n) = ap suc (length-rising (suc k) n)
 

@@ -13,13 +13,13 @@ use Rattle.alb_poly.specs.Poly.{list_eq}
 use Rattle.alb_poly.specs.Consequence.{AreMultilinear}
 use Rattle.alb_poly.specs.Instance.{Form}
 use Rattle.alb_table.specs.declared.part.Elem.TheVariants.{Gen}
-use Rattle.alb_table.specs.PartView.{PartView, elems, first_of, dim_of, monos_after, mono_at}
+use Rattle.alb_table.specs.PartView.{PartView, elems, first_of, dim_of, origins_at, monos_after, mono_at}
 use Rattle.alb_table.specs.Table.{IsTable, IsTarget, IsPartOf, first_parts, first_table}
 use Rattle.alb_table.specs.Limits.{most_of_type}
 use Rattle.alb_table.specs.Right.{AreHigh, IsOfType, IsTypeTo}
 use Rattle.alb_table.specs.RightTable.{IsRightTable, basis_monos, mono_entry}
 use Rattle.alb_table.proofs.FirstLemmas.{IsUnit, first_units, first_is_table, length_first, first_elems, first_products, first_coefficients}
-use Rattle.alb_table.proofs.PartLemmas.{list_eq-sound, list_eq-itself}
+use Rattle.alb_linear.proofs.IdentityLemmas.{list_eq-sound, list_eq-itself}
 use Rattle.alb_table.proofs.Right.{first-right}
 
 -- the range of a type of degree 1 is the generator of this type
@@ -77,6 +77,10 @@ no-origins : (k : ℕ) (ts : List (List ℕ)) (n : ℕ) → Each (λ (q : PartVi
 no-origins k [] n = tt
 no-origins k (t ∷ ts) n = (tt, no-origins (suc k) ts n)
 
+origins-none : (k : ℕ) (ts : List (List ℕ)) (w : List ℕ) → origins_at (first_parts k ts) w ≡ []
+origins-none k [] w = refl
+origins-none k (t ∷ ts) w = elim (cases_Bool (list_eq t w)) [ inl e ↦ rw e refl | inr e ↦ rw e (origins-none (suc k) ts w) ]
+
 small-parts : (k : ℕ) (ts : List (List ℕ)) → Each (λ (q : PartView). length q.entries ≤ most_of_type) (first_parts k ts)
 small-parts k [] = tt
 small-parts k (t ∷ ts) = (omega arith, small-parts (suc k) ts)
@@ -116,6 +120,7 @@ module _ (p : ℕ) (target : List ℕ) (prime : IsInTable p) (goal : IsTarget ta
   first-right-table fs multi high = record {
     right = first-right p fs multi high target (basis_monos (first_parts 0 (types_of target 1))) (mono_entry (first_parts 0 (types_of target 1))) one none;
     origins = λ w l c h. (let d : sum w ≤ 1 = c.degree_le in absurd (omega arith));
+    no_origins = λ w l. origins-none 0 (types_of target 1) w;
     known = no-origins 0 (types_of target 1) (length (elems (first_parts 0 (types_of target 1))));
     limits = record {
       types = small-parts 0 (types_of target 1);

@@ -1,5 +1,5 @@
 -- The vectors of generators.
-use Rattle.std.proofs.Common.{◌≡◌, ◌≢◌, ℕ, zero, suc, ◌+◌, ◌-◌, ◌<◌, ◌≤◌, Bool, true, false, List, [], ◌∷◌, ◌++◌, length, get_or, sym, refl, ap, ◌∙◌, arith, inl, inr, ◌⊎◌, subst}
+use Rattle.std.proofs.Common.{◌≡◌, ◌≢◌, ℕ, zero, suc, ◌+◌, ◌-◌, ◌<◌, ◌≤◌, Bool, true, false, List, [], ◌∷◌, ◌++◌, length, get_or, sym, refl, ap, ◌∙◌, arith, inl, inr, subst}
 use Rattle.std.specs.Prelude.{nat_lt, if◌then◌else◌}
 use Rattle.std.proofs.lemmas.Bool.Decides.{nat_tests}
 use Rattle.std.proofs.lemmas.List.{get_or_append_left, get_or-append_right}
@@ -14,6 +14,7 @@ use Rattle.alb_table.specs.PartView.{elems}
 use Rattle.alb_table.specs.Table.{Table, IsTable}
 use Rattle.alb_table.specs.Value.{IsVector, vectors, generator_vector}
 use Rattle.alb_table.proofs.TableLemmas.{long_enough}
+use Rattle.std.proofs.lemmas.Bool.{cases_lt}
 
 pub above_one : (t : Table) → IsTable t → 1 < t.p
 above_one t k = (IsPrime-from_table t.p k.field).above_one
@@ -51,13 +52,10 @@ past [] k l = refl
 past (r ∷ rows) zero l = absurd (omega arith)
 past (r ∷ rows) (suc k) l = past rows k (omega arith)
 
-side : (a b : ℕ) → (a < b) ⊎ (b ≤ a)
-side a b = grind arith
-
 -- one more row
 pub rows_more : (gens : ℕ) (rows next : List Cells) (r : Cells) (k : ℕ) → length rows ≡ k → ((i : ℕ) → i < k → vectors rows i ≡ generator_vector gens i) →
     comb r ≡ generator_vector gens k → next ≡ rows ++ r ∷ [] → (i : ℕ) → i < k + 1 → vectors next i ≡ generator_vector gens i
-rows_more gens rows next r k e h v n i l = elim (side i k) [
+rows_more gens rows next r k e h v n i l = elim (cases_lt i k) [
   | inl s ↦ ap (λ (xs : List Cells). vectors xs i) n ∙ ap comb (get_or_append_left rows (r ∷ []) [] i (omega arith)) ∙ h i s
   | inr s ↦
       let z : i ≡ k = omega arith in
@@ -69,7 +67,7 @@ rows_more gens rows next r k e h v n i l = elim (side i k) [
 -- all rows
 pub rows_all : (gens : ℕ) (rows : List Cells) (n : ℕ) → length rows ≡ n → gens ≤ n → ((i : ℕ) → i < n → vectors rows i ≡ generator_vector gens i) →
     (k : ℕ) → vectors rows k ≡ generator_vector gens k
-rows_all gens rows n e g h k = elim (side k n) [
+rows_all gens rows n e g h k = elim (cases_lt k n) [
   | inl s ↦ h k s
   | inr s ↦ ap comb (past rows k (omega arith)) ∙ other_value gens k [] (omega arith) refl
 ]

@@ -9,6 +9,7 @@ use Rattle.std.proofs.lemmas.List.{drop-drop}
 use Rattle.std.proofs.lemmas.Nat.{mul-le}
 use Rattle.std.proofs.Common.{get_or}
 use Rattle.alb_mono.specs.Types.{rising}
+use Rattle.alb_mono.proofs.Both.{both_tests}
 use Rattle.alb_table.specs.declared.grid.Grid.{Grid}
 use Rattle.alb_table.specs.Grid.{same_pair, rectangle, cells_of, find_entry, OffsetsFrom, covers, first_cover, place_in}
 
@@ -73,10 +74,6 @@ rectangle_misses b c a (suc n) d m (inl h) =
     misses-append b c (row a d m) (rectangle (suc a) n d m) (row_misses_left b c a d m (λ e. absurd (grind arith))) (rectangle_misses b c (suc a) n d m (inl (grind arith)))
 rectangle_misses b c a (suc n) d m (inr h) =
     misses-append b c (row a d m) (rectangle (suc a) n d m) (row_misses_right b c a d m h) (rectangle_misses b c (suc a) n d m (inr h))
-
-both_tests : (a b : Bool) → (a && b) ≡ true → (a ≡ true) × (b ≡ true)
-both_tests true b h = (refl, h)
-both_tests false b h = absurd (cc)
 
 covers_misses : (g : Grid) (b c : ℕ) → covers g b c ≡ false → Misses b c (cells_of g)
 covers_misses g b c h = rectangle_misses b c g.left g.lefts g.right g.rights (grind (arith, nat_tests))

@@ -33,7 +33,10 @@ use Rattle.alb_table.specs.Block.{image, spread, block_image, InSpan, tuple_row}
 use Rattle.alb_table.proofs.Values.{each-scale, each-both, value-stands, units-alike, consequence-value, value-normal}
 use Rattle.alb_table.proofs.Spans.{weigh-spread, spread-alike, spread-append, spread-scale, spread-each, span-alike, span-zero, span-append, span-scale, span-one, row_at, rows-span}
 
--- every form has degree 2 or more
+pub high-at : (fs : List Form) (k : ℕ) → AreHigh fs → k < length fs → 2 ≤ (form_at fs k).degree
+high-at [] k a l = absurd (omega arith)
+high-at (f ∷ fs) zero a l = a.0
+high-at (f ∷ fs) (suc k) a l = high-at fs k a.1 (omega arith)
 
 -- ---- values of filled monomials
 
@@ -220,12 +223,7 @@ module _ (p : ℕ) (pos : 0 < p) (fs : List Form) (multi : AreMultilinear fs) (h
       ]
 
   form_high : (i : ℕ) → i < length fs → 2 ≤ (form_at fs i).degree
-  form_high i h = at_place fs i high h
-    where
-      at_place : (gs : List Form) (k : ℕ) → AreHigh gs → k < length gs → 2 ≤ (form_at gs k).degree
-      at_place [] k a l = absurd (omega arith)
-      at_place (g ∷ gs) zero a l = a.0
-      at_place (g ∷ gs) (suc k) a l = at_place gs k a.1 (omega arith)
+  form_high i h = high-at fs i high h
 
   form_multilinear : (i : ℕ) → IsMultilinearForm (form_at fs i)
   form_multilinear i = multilinear_at fs i multi

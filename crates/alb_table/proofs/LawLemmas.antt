@@ -9,7 +9,7 @@ use Rattle.alb_poly.specs.Consequence.{Item, item_value}
 use Rattle.alb_poly.proofs.Consequence.{alike_poly, poly_alike}
 use Rattle.alb_poly.proofs.Multilinear.{each-from, each-map}
 use Rattle.alb_linear.proofs.IdentityLemmas.{list_eq-sound}
-use Rattle.alb_table.specs.Laws.{FactorsAreNormal, ValuesDecide, RightTableIsUnique, RightTablesGrow, FirstTableIsRight, PartsAreConsequences}
+use Rattle.alb_table.specs.Laws.{FactorsAreNormal, MonomialValuesDecide, RightTableIsUnique, RightTablesGrow, FirstTableIsRight, PartsAreConsequences}
 use Rattle.alb_table.proofs.Types.{type-listed}
 use Rattle.alb_table.proofs.Normal.{normal-left, normal-right}
 use Rattle.alb_table.proofs.Values.{each-scale}
@@ -19,8 +19,8 @@ use Rattle.alb_table.proofs.Right.{right-congruent, right-normal, consequence-ze
 pub factors-are-normal : FactorsAreNormal
 factors-are-normal p fs l r n = (normal-left p fs l r n, normal-right p fs l r n)
 
-pub values-decide : ValuesDecide
-values-decide p fs target d basis entry g pos multi high right within = record {
+pub monomial-values-decide : MonomialValuesDecide
+monomial-values-decide p fs target d basis entry g pos multi high right within = record {
   normal = right-normal p pos fs multi high target d basis entry right g within;
   congruent = right-congruent p pos fs multi high target d basis entry right g within;
   unique = λ h n c. poly_alike (normal_form-unique p pos fs multi high target d basis entry right g h within n c);

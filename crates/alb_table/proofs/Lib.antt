@@ -10,6 +10,7 @@ pub mod MonoLemmas
 pub mod ValueLemmas
 pub mod GeneratorLemmas
 pub mod ExampleLemmas
+pub mod ThreeLetters
 pub mod FindLemmas
 pub mod RiseLemmas
 pub mod Bases
@@ -31,3 +32,4 @@ pub mod LawLemmas
 pub mod RightTables
 pub mod FirstRight
 pub mod RightForLemmas
+pub mod TableValues

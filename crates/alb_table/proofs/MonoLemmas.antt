@@ -1,8 +1,8 @@
 -- The monomials of basis elements.
-use Rattle.std.proofs.Common.{◌≡◌, ℕ, zero, suc, ◌+◌, ◌-◌, ◌<◌, ◌≤◌, ◌==◌, false, List, [], ◌∷◌, ◌++◌, length, get_or, sym, refl, ap, ◌∙◌, arith, inl, inr, ◌⊎◌, subst, sum, length-append}
+use Rattle.std.proofs.Common.{◌≡◌, ℕ, zero, suc, ◌+◌, ◌-◌, ◌<◌, ◌≤◌, ◌==◌, false, List, [], ◌∷◌, ◌++◌, length, get_or, sym, refl, ap, ◌∙◌, arith, inl, inr, subst, sum, length-append}
 use Rattle.std.specs.Prelude.{Some, slice_get}
 use Rattle.std.proofs.lemmas.List.{get_or_append_left, get_or-append_right}
-use Rattle.alb_mono.specs.Listing.{Each, IsIn}
+use Rattle.alb_mono.specs.Listing.{Each}
 use Rattle.alb_mono.specs.Tree.{Tree, leaf, node, count, listed, type_of}
 use Rattle.alb_mono.proofs.ListingLemmas.{each-at, each-weaker}
 use Rattle.alb_table.specs.declared.part.Elem.{Elem}
@@ -13,8 +13,9 @@ use Rattle.alb_table.specs.Table.{Table, IsTable, IsElementOf, IsPartOf, Factors
 use Rattle.alb_table.specs.Grid.{ArePairsBelow}
 use Rattle.alb_table.proofs.PartLemmas.{elems_step, sum-plus}
 use Rattle.alb_table.proofs.RangeLemmas.{type_first, type_later, product_of, type_of_range, degrees_ascend}
-use Rattle.alb_table.proofs.TableLemmas.{types_ascend, type_shape}
+use Rattle.alb_table.proofs.TableLemmas.{types_ascend, type_shape, each-in}
 use Rattle.std.proofs.lemmas.Bool.Decides.{nat_tests}
+use Rattle.std.proofs.lemmas.Bool.{cases_lt}
 
 mono_of-same : (ms ns : List Tree) (n : ℕ) (e : Elem) → FactorsBelow n e → ((i : ℕ) → i < n → get_or ms i (leaf 0) ≡ get_or ns i (leaf 0)) → mono_of ms e ≡ mono_of ns e
 mono_of-same ms ns n (Gen k) f h = refl
@@ -50,7 +51,7 @@ element_at : (ps parts : List PartView) (b : ℕ) (u : Elem) → Each (λ (q : P
 element_at ps [] b u e h = absurd (omega arith)
 element_at ps (q ∷ qs) b u e h =
     let l : length (elems (q ∷ qs)) ≡ length q.basis + length (elems qs) = elems_step q qs in
-    elim (side b (length q.basis)) [
+    elim (cases_lt b (length q.basis)) [
       | inl s ↦
           let a : IsElementOf q.at (products ps q.at) (get_or q.basis b u) = each-at (IsElementOf q.at (products ps q.at)) q.basis b u e.0 s in
           let g : get_or (elems (q ∷ qs)) b u ≡ get_or q.basis b u = get_or_append_left q.basis (elems qs) u b s in
@@ -61,18 +62,12 @@ element_at ps (q ∷ qs) b u e h =
           subst (λ (w : List ℕ). IsElementOf w (products ps w) (get_or (elems (q ∷ qs)) b u)) (sym (type_later q qs b s))
           (subst (IsElementOf (type_at qs (b - length q.basis)) (products ps (type_at qs (b - length q.basis)))) (sym g) a)
     ]
-  where
-    side : (a b : ℕ) → (a < b) ⊎ (b ≤ a)
-    side a b = grind arith
 
 factor_below : (t : Table) (b l : ℕ) (w : List ℕ) → IsTable t → b < length (elems t.parts) → l < length (elems t.parts) → type_at t.parts l ≡ w → sum w < sum (type_at t.parts b) → l < b
-factor_below t b l w k h g e s = elim (side l b) [
+factor_below t b l w k h g e s = elim (cases_lt l b) [
   | inl r ↦ r
   | inr r ↦ let d : sum (type_at t.parts b) ≤ sum (type_at t.parts l) = degrees_ascend t.parts b l (types_ascend t k) r g in let q : sum (type_at t.parts l) ≡ sum w = ap sum e in absurd (omega arith)
 ]
-  where
-    side : (a b : ℕ) → (a < b) ⊎ (b ≤ a)
-    side a b = grind arith
 
 factors_of : (t : Table) (b : ℕ) (e : Elem) → IsTable t → b < length (elems t.parts) → IsElementOf (type_at t.parts b) (products t.parts (type_at t.parts b)) e → FactorsBelow b e
 factors_of t b (Gen n) k h i = tt
@@ -85,7 +80,7 @@ factors_of t b (Prod l r) k h i =
     let x : 0 < sum p.left = s.left in let y : 0 < sum p.right = s.right in
     (factor_below t b l p.left k h a.0 a.1 (omega arith), factor_below t b r p.right k h c.0 c.1 (omega arith))
 
-get_of_some : {X : Type 0} (xs : List X) (i : ℕ) (x d : X) → slice_get xs i ≡ Some x → get_or xs i d ≡ x
+pub get_of_some : {X : Type 0} (xs : List X) (i : ℕ) (x d : X) → slice_get xs i ≡ Some x → get_or xs i d ≡ x
 get_of_some [] i x d h = absurd (cc)
 get_of_some (y ∷ xs) zero x d h = let q : Some y ≡ Some x = h in cc
 get_of_some (y ∷ xs) (suc i) x d h = get_of_some xs i x d h
@@ -109,7 +104,7 @@ unfolding type_of
 no_type k n h = no_count k 0 n (omega arith)
 
 generator_of : (t : Table) (b : ℕ) (e : Elem) → IsTable t → b < length (elems t.parts) → IsElementOf (type_at t.parts b) (products t.parts (type_at t.parts b)) e → GeneratorBelow (length t.target) e
-generator_of t b (Gen k) tab h i = elim (side k (length t.target)) [
+generator_of t b (Gen k) tab h i = elim (cases_lt k (length t.target)) [
   | inl r ↦ r
   | inr r ↦
       let s = type_shape t b tab h in
@@ -118,9 +113,6 @@ generator_of t b (Gen k) tab h i = elim (side k (length t.target)) [
       let q : sum (type_at t.parts b) ≡ 0 = ap sum i ∙ z in
       let some : 0 < sum (type_at t.parts b) = s.some in absurd (omega arith)
 ]
-  where
-    side : (a b : ℕ) → (a < b) ⊎ (b ≤ a)
-    side a b = grind arith
 generator_of t b (Prod l r) tab h i = tt
 
 pub elem_generator : (t : Table) (b : ℕ) (e : Elem) → IsTable t → b < length (elems t.parts) → slice_get (elems t.parts) b ≡ Some e → GeneratorBelow (length t.target) e
@@ -131,10 +123,6 @@ elem_generator t b e k h g =
     (element_at t.parts t.parts b e (each-weaker (IsPartOf t.p t.parts t.parts) (λ (v : PartView). Each (IsElementOf v.at (products t.parts v.at)) v.basis) t.parts (λ v z. z.elements) k.each) h))
 
 -- ---- the numbers of listed products
-
-each-in : {X : Type 0} (P : X → Type 0) (xs : List X) → ((x : X) → IsIn x xs → P x) → Each P xs
-each-in P [] h = tt
-each-in P (x ∷ xs) h = (h x (inl refl), each-in P xs (λ y i. h y (inr i)))
 
 pub products_below : (parts : List PartView) (t : List ℕ) → ArePairsBelow (length (elems parts)) (products parts t)
 products_below parts t = each-in (λ k. (k.0 < length (elems parts)) × (k.1 < length (elems parts))) (products parts t) (λ k i.

@@ -109,7 +109,7 @@ module _ (n : ℕ) (monos : List Tree) (product : ℕ → ℕ → Comb ℕ) (num
 
 -- ---- a longer list of basis monomials
 
-place-append : (monos news : List Tree) (x : Tree) → place_of monos x < length monos → place_of (monos ++ news) x ≡ place_of monos x
+pub place-append : (monos news : List Tree) (x : Tree) → place_of monos x < length monos → place_of (monos ++ news) x ≡ place_of monos x
 place-append [] news x h = absurd (omega arith)
 place-append (m ∷ monos) news x h = elim (cases_Bool (same_tree m x)) [
   | inl e ↦ rw e

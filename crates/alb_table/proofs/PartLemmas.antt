@@ -1,17 +1,17 @@
 -- Parts, types and numbers.
-use Rattle.std.proofs.Common.{◌≡◌, ℕ, zero, suc, ◌+◌, ◌-◌, ◌*◌, ◌<◌, ◌≤◌, ◌==◌, Bool, true, false, List, [], ◌∷◌, ◌++◌, map, length, get_or, replicate, reverse, sym, refl, ap, ◌∙◌, arith, inl, inr, ◌⊎◌, subst, length-append, append_assoc, sum}
+use Rattle.std.proofs.Common.{◌≡◌, ℕ, zero, suc, ◌+◌, ◌-◌, ◌*◌, ◌<◌, ◌≤◌, true, false, List, [], ◌∷◌, ◌++◌, map, length, get_or, replicate, reverse, sym, refl, ap, ◌∙◌, arith, inl, inr, ◌⊎◌, subst, length-append, append_assoc, sum}
 use Rattle.alb_table.proofs.GridLemmas.{length-rectangle}
-use Rattle.std.specs.Prelude.{◌&&◌, Some, None, slice_index_or}
+use Rattle.std.specs.Prelude.{Some, None, slice_index_or}
 use Rattle.std.specs.List.{flat_map}
 use Rattle.std.proofs.lemmas.List.Concat.{flat_map-append}
 use Rattle.std.proofs.Math.ListN.{length-replicate}
 use Rattle.std.proofs.lemmas.List.Sums.{sum_by-cons}
-use Rattle.std.proofs.lemmas.Bool.{cases_Bool}
-use Rattle.std.proofs.lemmas.Bool.Decides.{nat_tests}
+use Rattle.std.proofs.lemmas.Bool.{cases_Bool, cases_lt}
 use Rattle.std.proofs.lemmas.List.{get_or-replicate, get_or_append_left, get_or-append_right, map-append, append-nil, reverse-append, reverse-reverse}
 use Rattle.alb_table.specs.declared.grid.Grid.{Grid}
 use Rattle.alb_table.specs.Grid.{cells_of, OffsetsFrom, Rises, rectangle, find_entry}
 use Rattle.alb_poly.specs.Poly.{list_eq}
+use Rattle.alb_linear.proofs.IdentityLemmas.{list_eq-sound, list_eq-itself}
 use Rattle.alb_table.specs.PartView.{PartView, part_view, first_of, dim_of, elems, types, type_at, entries_at, origins_at, part_at}
 use Rattle.alb_table.specs.Entry.{products_of, products, entry_of}
 use Rattle.alb_table.specs.Stored.{grids_from}
@@ -29,22 +29,6 @@ use Rattle.alb_mono.proofs.ListingLemmas.{each-at, each-weaker}
 use Rattle.alb_mono.proofs.TypeLemmas.{plus_at, length-type_plus}
 use Rattle.alb_table.specs.declared.stored.Stored.{Stored}
 use Rattle.alb_table.specs.declared.part.Part.{Part}
-
-both_tests : (a b : Bool) → (a && b) ≡ true → (a ≡ true) × (b ≡ true)
-both_tests true b h = (refl, h)
-both_tests false b h = absurd (cc)
-
-pub list_eq-itself : (t : List ℕ) → list_eq t t ≡ true
-list_eq-itself [] = refl
-list_eq-itself (x ∷ t) = let e : (x == x) ≡ true = grind (arith, nat_tests) in rw e (list_eq-itself t)
-
-pub list_eq-sound : (t u : List ℕ) → list_eq t u ≡ true → t ≡ u
-list_eq-sound [] [] h = refl
-list_eq-sound [] (y ∷ u) h = absurd (cc)
-list_eq-sound (x ∷ t) [] h = absurd (cc)
-list_eq-sound (x ∷ t) (y ∷ u) h =
-    let b = both_tests _ _ h in let e : (x == y) ≡ true = b.0 in let q : x ≡ y = grind (arith, nat_tests) in
-    let r : t ≡ u = list_eq-sound t u b.1 in cc
 
 pub list_eq-other : (t u : List ℕ) → (t ≡ u → ⊥) → list_eq t u ≡ false
 list_eq-other t u h = elim (cases_Bool (list_eq t u)) [ inl e ↦ absurd (h (list_eq-sound t u e)) | inr e ↦ e ]
@@ -106,7 +90,7 @@ number_at (q ∷ qs) b k d e f h =
     let n : length (replicate (length q.basis) k) ≡ length q.basis = length-replicate _ _ in
     let m : length (replicate (length q.basis) q.at) ≡ length q.basis = length-replicate _ _ in
     let l : length (elems (q ∷ qs)) ≡ length q.basis + length (elems qs) = length-append q.basis (elems qs) in
-    elim (side b (length q.basis)) [
+    elim (cases_lt b (length q.basis)) [
       | inl s ↦ (
         0,
         get_or_append_left (replicate (length q.basis) k) _ d b (omega arith) ∙ get_or-replicate (length q.basis) b k d s ∙ omega arith,
@@ -120,9 +104,6 @@ number_at (q ∷ qs) b k d e f h =
         r.3 ∙ sym (get_or-append_right (replicate (length q.basis) q.at) _ _ b f m s),
       )
     ]
-  where
-    side : (b n : ℕ) → (b < n) ⊎ (n ≤ b)
-    side b n = grind arith
 
 -- ---- over the stored parts
 

@@ -4,7 +4,7 @@ use Rattle.std.specs.Prelude.{Some, None}
 use Rattle.std.specs.List.{flat_map}
 use Rattle.std.specs.declared.cmp.Ordering.TheVariants.{Less}
 use Rattle.std.proofs.Math.ListN.{length-replicate}
-use Rattle.std.proofs.lemmas.Bool.{cases_Bool}
+use Rattle.std.proofs.lemmas.Bool.{cases_Bool, cases_lt}
 use Rattle.std.proofs.lemmas.Bool.Decides.{nat_tests}
 use Rattle.std.proofs.lemmas.List.{get_or-replicate, get_or_append_left, get_or-append_right}
 use Rattle.alb_mono.specs.Listing.{Each, IsIn, Ascends}
@@ -13,10 +13,11 @@ use Rattle.alb_mono.specs.Types.{rising, splits, IsSplit}
 use Rattle.alb_mono.proofs.ListingLemmas.{each-member, in-map, in-flat}
 use Rattle.alb_mono.proofs.TypesListing.{splits-listing}
 use Rattle.alb_poly.specs.Poly.{list_eq}
+use Rattle.alb_linear.proofs.IdentityLemmas.{list_eq-sound, list_eq-itself}
 use Rattle.alb_table.specs.PartView.{PartView, first_of, dim_of, elems, types, type_at, entries_at}
 use Rattle.alb_table.specs.Grid.{rectangle, same_pair, find_entry}
 use Rattle.alb_table.specs.Entry.{products}
-use Rattle.alb_table.proofs.PartLemmas.{elems_step, first_here, first_step, list_eq-sound, list_eq-itself, no_part, number_at}
+use Rattle.alb_table.proofs.PartLemmas.{elems_step, first_here, first_step, no_part, number_at}
 use Rattle.alb_table.proofs.TypesTo.{in-rising, apart, degrees_rise}
 
 abbrev pub ats : List PartView → List (List ℕ)
@@ -31,9 +32,6 @@ pub type_later : (q : PartView) (qs : List PartView) (b : ℕ) → length q.basi
 type_later q qs b h =
     let m : length (replicate (length q.basis) q.at) ≡ length q.basis = length-replicate _ _ in
     get_or-append_right (replicate (length q.basis) q.at) (types qs) (length q.basis) b [] m h
-
-side : (a b : ℕ) → (a < b) ⊎ (b ≤ a)
-side a b = grind arith
 
 in_at : (parts : List PartView) (i : ℕ) (d : PartView) → i < length parts → IsIn (get_or parts i d).at (ats parts)
 in_at [] i d h = absurd (omega arith)
@@ -66,7 +64,7 @@ pub number_in_range : (parts : List PartView) (b : ℕ) → Ascends cmp_types (a
 number_in_range [] b a h = absurd (omega arith)
 number_in_range (q ∷ qs) b a h =
     let l : length (elems (q ∷ qs)) ≡ length q.basis + length (elems qs) = elems_step q qs in
-    elim (side b (length q.basis)) [
+    elim (cases_lt b (length q.basis)) [
       | inl s ↦ range_here q qs (type_at (q ∷ qs) b) b (sym (type_first q qs b s)) s
       | inr s ↦
           let t : type_at (q ∷ qs) b ≡ type_at qs (b - length q.basis) = type_later q qs b s in
@@ -117,11 +115,11 @@ pub degrees_ascend : (parts : List PartView) (b c : ℕ) → Ascends cmp_types (
 degrees_ascend [] b c a l h = absurd (omega arith)
 degrees_ascend (q ∷ qs) b c a l h =
     let n : length (elems (q ∷ qs)) ≡ length q.basis + length (elems qs) = elems_step q qs in
-    elim (side c (length q.basis)) [
+    elim (cases_lt c (length q.basis)) [
       | inl s ↦ rw (type_first q qs b (omega arith), type_first q qs c s) (omega arith)
       | inr s ↦
           let k : c - length q.basis < length (elems qs) = omega arith in
-          elim (side b (length q.basis)) [
+          elim (cases_lt b (length q.basis)) [
             | inl r ↦ rw (type_first q qs b r, type_later q qs c s)
                 (degrees_rise q.at (type_at qs (c - length q.basis))
                 (each-member (λ y. cmp_types q.at y ≡ Less) (ats qs) (type_at qs (c - length q.basis)) a.0 (type_in qs (c - length q.basis) k)))
@@ -149,7 +147,8 @@ pub record IsProductOf (parts : List PartView) (t : List ℕ) (b c : ℕ) : Type
   pub left_range : InRange parts left b
   pub right_range : InRange parts right c
 
-rising_bounds : (k n d : ℕ) → IsIn d (rising k n) → (k ≤ d) × (d < k + n)
+-- what stands in a run
+pub rising_bounds : (k n d : ℕ) → IsIn d (rising k n) → (k ≤ d) × (d < k + n)
 rising_bounds k zero d h = absurd h
 rising_bounds k (suc n) d (inl q) = (omega arith, omega arith)
 rising_bounds k (suc n) d (inr h) = let r = rising_bounds (suc k) n d h in let a = r.0 in let b = r.1 in (omega arith, omega arith)

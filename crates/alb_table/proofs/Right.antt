@@ -34,7 +34,7 @@ use Rattle.alb_table.specs.Right.{AreHigh, poly_value, StandsFor, IsOfType, IsWi
 use Rattle.alb_table.proofs.Bases.{IsTable, IsBlock, IsTuple, IsColumn}
 use Rattle.alb_table.specs.Block.{InSpan, tuple_row, spread, block_image, IsPivot, IsTupleAt, IsColumnAt, IsFreeAt, IsEntryAt, AreFreeAt, Grows}
 use Rattle.alb_table.proofs.Values.{each-both, each-scale, normal-unique, poly-value-congruent, poly-value-basis, consequence-value, value-consequence}
-use Rattle.alb_table.proofs.Image.{high_node, count-fill, image-spans, tuple-image, spread-spread}
+use Rattle.alb_table.proofs.Image.{high-at, high_node, count-fill, image-spans, tuple-image, spread-spread}
 use Rattle.alb_table.proofs.Spans.{span-zero, span-one, spread-each}
 use Rattle.alb_table.proofs.Pivots.{pivot-leading, normal-column, column-normal, span-consequence, element-columns}
 use Rattle.alb_table.proofs.Within.{test_from_below, none-past, degree-positive, get-listed, degree-counts, within-closed, within-more, within-cases, within-block, of_type-same, same-of_type, degree-same}
@@ -53,11 +53,6 @@ within-product ((Right, m) ∷ c) x h = within-product c (node x m) tt
 fill-product : (ms : List Tree) (n : ℕ) (x : Tree) → 2 ≤ n → IsMultilinear n x → IsProduct (fill ms x)
 fill-product ms n (leaf k) h m = absurd (high_node n k h m)
 fill-product ms n (node l r) h m = tt
-
-pub high-at : (fs : List Form) (k : ℕ) → AreHigh fs → k < length fs → 2 ≤ (form_at fs k).degree
-high-at [] k a l = absurd (omega arith)
-high-at (f ∷ fs) zero a l = a.0
-high-at (f ∷ fs) (suc k) a l = high-at fs k a.1 (omega arith)
 
 module _ (fs : List Form) (multi : AreMultilinear fs) (high : AreHigh fs) where
   item-products : (it : Item) → IsItem fs it → Each (λ t. IsProduct t.1) (item_value fs it)

@@ -1,6 +1,7 @@
 -- What rules, and tables that are right for them, say.
-use Rattle.std.proofs.Common.{◌≡◌, ℕ, ◌<◌, ◌≤◌, ◌^◌, List, length, sym, subst, arith, ◌∙◌}
+use Rattle.std.proofs.Common.{◌≡◌, ℕ, ◌<◌, ◌≤◌, ◌^◌, List, length, refl, sym, subst, arith}
 use Rattle.std.proofs.lemmas.List.{length-map}
+use Rattle.gf_field.specs.Primes.{IsInTable}
 use Rattle.gf_field.proofs.Table.{IsPrime-from_table}
 use Rattle.alb_mono.specs.Listing.{Each}
 use Rattle.alb_mono.proofs.ListingLemmas.{each-weaker}
@@ -11,8 +12,11 @@ use Rattle.alb_poly.specs.declared.rules.Rules.{Rules}
 use Rattle.alb_linear.specs.Identity.{IsLinearized}
 use Rattle.alb_table.specs.RightFor.{RulesView, rules_view, AreRules, IsRightFor}
 use Rattle.alb_table.specs.RightTable.{IsRightTable}
-use Rattle.alb_table.specs.Table.{Table, IsTable}
-use Rattle.alb_table.proofs.FirstLemmas.{few_generators}
+use Rattle.alb_table.specs.PartView.{PartView}
+use Rattle.alb_table.specs.Right.{AreHigh}
+use Rattle.alb_table.specs.Table.{Table, IsTable, IsTarget, first_table, extended}
+use Rattle.alb_table.proofs.FirstLemmas.{few_generators, first_is_table}
+use Rattle.alb_table.proofs.FirstRight.{first-right-table}
 
 -- ---- rules
 
@@ -32,6 +36,21 @@ right-for r t h field target table right =
     record { field = field; target = target; multilinear = rules-multilinear r h; high = h.high; table = table; right = right }
 
 -- ---- right tables
+
+-- the table of the generators
+pub first-right-for : (r : RulesView) → IsInTable r.p → IsTarget r.target → AreMultilinear r.forms → AreHigh r.forms → IsRightFor r (first_table r.p r.target)
+first-right-for r prime goal multi high = record {
+  field = refl;
+  target = refl;
+  multilinear = multi;
+  high = high;
+  table = first_is_table r.p r.target prime goal;
+  right = first-right-table r.p r.target prime goal r.forms multi high;
+}
+
+-- a longer table
+pub right-extended : (r : RulesView) (t : Table) (new : List PartView) → IsRightFor r t → IsTable (extended t new) → IsRightTable r.forms (extended t new) → IsRightFor r (extended t new)
+right-extended r t new h table right = record { field = h.field; target = h.target; multilinear = h.multilinear; high = h.high; table = table; right = right }
 
 pub right-positive : (r : RulesView) (t : Table) → IsRightFor r t → 0 < t.p
 right-positive r t h = omega (arith, (IsPrime-from_table t.p h.table.field).above_one)

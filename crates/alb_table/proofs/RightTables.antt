@@ -73,11 +73,11 @@ length-monos parts = omega (arith, length-after [] (elems parts))
 
 -- ---- cells and elements
 
-each-comb : (n : ℕ) (cells : Cells) → ColumnsBelow n cells → Each (λ s. s.1 < n) (comb cells)
-each-comb n [] h = tt
-each-comb n (x ∷ xs) h = (h 0 x (omega arith), each-comb n xs (λ k d l. h (suc k) d (omega arith)))
+pub columns-below : (n : ℕ) (cells : Cells) → ColumnsBelow n cells → Each (λ s. s.1 < n) (comb cells)
+columns-below n [] h = tt
+columns-below n (x ∷ xs) h = (h 0 x (omega arith), columns-below n xs (λ k d l. h (suc k) d (omega arith)))
 
-gens-at : (k n i : ℕ) (d : Elem) → i < n → get_or (map Gen (rising k n)) i d ≡ Gen (k + i)
+pub gens-at : (k n i : ℕ) (d : Elem) → i < n → get_or (map Gen (rising k n)) i d ≡ Gen (k + i)
 gens-at k zero i d l = absurd (omega arith)
 gens-at k (suc n) zero d l = ap Gen (omega arith)
 gens-at k (suc n) (suc i) d l = gens-at (suc k) n i d (omega arith) ∙ ap Gen (omega arith)
@@ -170,7 +170,7 @@ module _ (fs : List Form) (t : Table) (tab : IsTable t) (right : IsRight t.p fs 
   ]
 
   entry-below : (b c : ℕ) (e : Cells) → entry_of t.parts b c ≡ Some e → Each (λ s. s.1 < length (monos t.parts)) (comb e)
-  entry-below b c e h = each-comb (length (monos t.parts)) e (λ k d l. omega (arith, length-monos t.parts, (entry_vector t b c e tab h).below k d l))
+  entry-below b c e h = columns-below (length (monos t.parts)) e (λ k d l. omega (arith, length-monos t.parts, (entry_vector t b c e tab h).below k d l))
 
   product-below : (b c : ℕ) (o : Option Cells) → entry_of t.parts b c ≡ o → Each (λ s. s.1 < length (monos t.parts)) (comb (unwrap_or o []))
   product-below b c None h = tt

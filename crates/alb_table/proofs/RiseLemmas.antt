@@ -1,30 +1,33 @@
 -- The rectangles of a type by their left numbers.
-use Rattle.std.proofs.Common.{◌≡◌, ℕ, zero, suc, ◌+◌, ◌*◌, ◌<◌, ◌≤◌, Bool, true, false, List, [], ◌∷◌, length, get_or, sym, refl, ap, ◌∙◌, arith, inl, inr, ◌⊎◌, subst, sum}
-use Rattle.std.specs.Prelude.{Some, None, ◌&&◌, nat_le}
+use Rattle.std.proofs.Common.{◌≡◌, ℕ, zero, suc, ◌+◌, ◌*◌, ◌<◌, ◌≤◌, true, false, List, [], ◌∷◌, length, get_or, sym, refl, ap, ◌∙◌, arith, inl, inr, ◌⊎◌, subst, sum}
+use Rattle.std.specs.Prelude.{Some, None, nat_le}
 use Rattle.std.specs.declared.cmp.Ordering.TheVariants.{Less}
-use Rattle.std.proofs.lemmas.Bool.{cases_Bool}
+use Rattle.std.proofs.lemmas.Bool.{cases_Bool, cases_lt}
 use Rattle.std.proofs.lemmas.Bool.Decides.{nat_tests}
 use Rattle.alb_mono.specs.Listing.{Each, IsIn, Ascends}
 use Rattle.alb_mono.specs.Tree.{type_le, cmp_types}
 use Rattle.alb_mono.specs.Types.{IsTypeWithin, splits, IsSplit}
 use Rattle.alb_mono.proofs.ListingLemmas.{each-weaker, each-member, each-both, each-always}
+use Rattle.alb_mono.proofs.Both.{both_tests}
 use Rattle.alb_mono.proofs.TypesListing.{splits-listing, le-plus}
 use Rattle.alb_mono.proofs.Order.{cmp_types_total}
 use Rattle.alb_poly.specs.Poly.{list_eq}
+use Rattle.alb_linear.proofs.IdentityLemmas.{list_eq-sound, list_eq-itself}
 use Rattle.alb_table.specs.declared.grid.Grid.{Grid}
 use Rattle.alb_table.specs.Grid.{covers, first_cover, Rises}
 use Rattle.alb_table.specs.PartView.{PartView, first_of, dim_of}
 use Rattle.alb_table.specs.Stored.{grids_from}
 use Rattle.alb_table.specs.Table.{Table, IsTable}
 use Rattle.alb_table.proofs.GridLemmas.{Covers, covers_fact}
-use Rattle.alb_table.proofs.PartLemmas.{first_here, first_step, list_eq-sound, list_eq-itself, sum-plus}
+use Rattle.alb_table.proofs.PartLemmas.{first_here, first_step, sum-plus}
 use Rattle.alb_table.proofs.RangeLemmas.{ats}
 use Rattle.alb_table.proofs.TableLemmas.{types_ascend}
 use Rattle.alb_table.proofs.TypesTo.{types_to-all, apart}
 
 -- ---- the ranges of ascending types
 
-ranges_rise : (parts : List PartView) (s u : List ℕ) → Ascends cmp_types (ats parts) → IsIn s (ats parts) → IsIn u (ats parts) → cmp_types s u ≡ Less →
+-- the numbers of an earlier type come before those of a later one
+pub ranges_rise : (parts : List PartView) (s u : List ℕ) → Ascends cmp_types (ats parts) → IsIn s (ats parts) → IsIn u (ats parts) → cmp_types s u ≡ Less →
     first_of parts s + dim_of parts s ≤ first_of parts u
 ranges_rise [] s u a i j h = absurd i
 ranges_rise (q ∷ qs) s u a i j h = elim (cases_Bool (list_eq q.at s)) [
@@ -58,11 +61,7 @@ rises_from parts m n (s ∷ ss) o a i h = (
       (each-both (λ (q : List ℕ × List ℕ). cmp_types s.0 q.0 ≡ Less) (λ (q : List ℕ × List ℕ). IsIn q.0 (ats parts)) ss a.0 i.1)),
 )
 
-both_tests : (a b : Bool) → (a && b) ≡ true → (a ≡ true) × (b ≡ true)
-both_tests true b h = (refl, h)
-both_tests false b h = absurd (cc)
-
-le_trans : (xs ys zs : List ℕ) → length xs ≡ length ys → length ys ≡ length zs → type_le xs ys ≡ true → type_le ys zs ≡ true → type_le xs zs ≡ true
+pub le_trans : (xs ys zs : List ℕ) → length xs ≡ length ys → length ys ≡ length zs → type_le xs ys ≡ true → type_le ys zs ≡ true → type_le xs zs ≡ true
 le_trans [] ys zs e f h k = refl
 le_trans (x ∷ xs) [] zs e f h k = absurd (omega arith)
 le_trans (x ∷ xs) (y ∷ ys) [] e f h k = absurd (omega arith)
@@ -131,10 +130,10 @@ pub record Narrows (gs : List Grid) (b c low high : ℕ) : Type 0 where
 pub narrows_start : (gs : List Grid) (b c n : ℕ) → n ≡ length gs → Narrows gs b c 0 n
 narrows_start gs b c n e = record { order = omega arith; within = omega arith; below = λ j l. absurd (omega arith); above = λ j h l. absurd (omega arith) }
 
-below_or : (j m : ℕ) → j < m + 1 → (j < m) ⊎ (j ≡ m)
+pub below_or : (j m : ℕ) → j < m + 1 → (j < m) ⊎ (j ≡ m)
 below_or j m h = grind arith
 
-from_or : (j m : ℕ) → m ≤ j → (m < j) ⊎ (m ≡ j)
+pub from_or : (j m : ℕ) → m ≤ j → (m < j) ⊎ (m ≡ j)
 from_or j m h = grind arith
 
 narrows_after : (gs : List Grid) (b c low high m : ℕ) → Rises 0 gs → Narrows gs b c low high → m < high → covers (get_or gs m no_grid) b c ≡ false →
@@ -168,7 +167,7 @@ narrows_before gs b c low high m r h k l n e =
 -- the next step, whichever part it takes
 pub narrows_step : (gs : List Grid) (g : Grid) (b c low high m x y : ℕ) → Rises 0 gs → Narrows gs b c low high → low ≤ m → m < high → get_or gs m no_grid ≡ g →
     covers g b c ≡ false → (g.left + g.lefts ≤ b → (x ≡ m + 1) × (y ≡ high)) → (b < g.left + g.lefts → (x ≡ low) × (y ≡ m)) → Narrows gs b c x y
-narrows_step gs g b c low high m x y r h k l e n f s = elim (side b (g.left + g.lefts)) [
+narrows_step gs g b c low high m x y r h k l e n f s = elim (cases_lt b (g.left + g.lefts)) [
   | inr z ↦ let q = f z in
       subst (λ i. Narrows gs b c i y) (sym q.0) (subst (λ j. Narrows gs b c (m + 1) j) (sym q.1)
       (narrows_after gs b c low high m r h l (ap (λ (v : Grid). covers v b c) e ∙ n) (subst (λ (v : Grid). v.left + v.lefts ≤ b) (sym e) z)))
@@ -176,9 +175,6 @@ narrows_step gs g b c low high m x y r h k l e n f s = elim (side b (g.left + g.
       subst (λ i. Narrows gs b c i y) (sym q.0) (subst (λ j. Narrows gs b c low j) (sym q.1)
       (narrows_before gs b c low high m r h k l (ap (λ (v : Grid). covers v b c) e ∙ n) (subst (λ (v : Grid). b < v.left + v.lefts) (sym e) z)))
 ]
-  where
-    side : (a b : ℕ) → (a < b) ⊎ (b ≤ a)
-    side a b = grind arith
 
 pub narrows_found : (gs : List Grid) (g : Grid) (b c low high m : ℕ) → Rises 0 gs → Narrows gs b c low high → m < high → get_or gs m no_grid ≡ g → covers g b c ≡ true →
     first_cover b c gs ≡ Some g
@@ -190,7 +186,4 @@ narrows_found gs g b c low high m r h l e n =
     (λ j s. (let a = rises_at 0 gs j m no_grid r s (omega arith) in uncovered (get_or gs j no_grid) b c (inr (omega (arith, a))))) ∙ ap Some e
 
 pub narrows_none : (gs : List Grid) (b c low high : ℕ) → Narrows gs b c low high → high ≤ low → first_cover b c gs ≡ None
-narrows_none gs b c low high h l = first_none b c gs no_grid (λ j z. elim (side j low) [ inl s ↦ h.below j s | inr s ↦ h.above j (omega arith) z ])
-  where
-    side : (a b : ℕ) → (a < b) ⊎ (b ≤ a)
-    side a b = grind arith
+narrows_none gs b c low high h l = first_none b c gs no_grid (λ j z. elim (cases_lt j low) [ inl s ↦ h.below j s | inr s ↦ h.above j (omega arith) z ])

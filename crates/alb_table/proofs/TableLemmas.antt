@@ -1,8 +1,8 @@
 -- What follows from what every table keeps.
-use Rattle.std.proofs.Common.{◌≡◌, ℕ, zero, suc, ◌+◌, ◌<◌, ◌≤◌, true, List, [], ◌∷◌, ◌++◌, map, length, take, sym, refl, ap, ◌∙◌, arith, inl, inr, ◌⊎◌, subst, sum}
+use Rattle.std.proofs.Common.{◌≡◌, ℕ, zero, suc, ◌+◌, ◌<◌, ◌≤◌, true, List, [], ◌∷◌, ◌++◌, map, length, take, sym, refl, ap, ◌∙◌, arith, inl, inr, subst, sum}
 use Rattle.std.specs.Prelude.{All, Option, Some, None, MatchOption, IfSome, IfNone}
 use Rattle.std.specs.List.{flat_map}
-use Rattle.std.proofs.lemmas.Bool.{cases_Bool}
+use Rattle.std.proofs.lemmas.Bool.{cases_Bool, cases_lt}
 use Rattle.std.proofs.lemmas.List.{map-append, append-nil, take-append-le, take_all}
 use Rattle.std.proofs.lemmas.List.Concat.{flat_map-append}
 use Rattle.alb_mono.specs.Listing.{Each, IsIn, Ascends}
@@ -12,6 +12,7 @@ use Rattle.alb_mono.proofs.ListingLemmas.{each-weaker, each-append, each-member,
 use Rattle.alb_mono.proofs.TypeLemmas.{length-type_plus, rising_more}
 use Rattle.alb_mono.proofs.TypesListing.{types_of-listing}
 use Rattle.alb_poly.specs.Poly.{list_eq}
+use Rattle.alb_linear.proofs.IdentityLemmas.{list_eq-itself}
 use Rattle.alb_rows.specs.Row.{Cells}
 use Rattle.alb_table.specs.declared.part.Elem.{Elem}
 use Rattle.alb_table.specs.declared.part.Elem.TheVariants.{Gen}
@@ -21,7 +22,7 @@ use Rattle.alb_table.specs.Grid.{same_pair, find_entry}
 use Rattle.alb_table.specs.Table.{Table, IsTable, IsPartOf, IsElementOf, IsRowAmong, IsCountable, CoversType, types_to, extended}
 use Rattle.alb_table.specs.Value.{IsVector}
 use Rattle.alb_table.proofs.GridLemmas.{find_empty}
-use Rattle.alb_table.proofs.PartLemmas.{sum-plus, list_eq-itself, products-extend}
+use Rattle.alb_table.proofs.PartLemmas.{sum-plus, products-extend}
 use Rattle.alb_table.proofs.TypesTo.{IsTypeTo, types_to-each, types_to-all, types_to-ascends, counts_small}
 use Rattle.alb_table.proofs.RangeLemmas.{ats, type_in, number_in_range, product_in, found_in, entries_full, entries_where, range_within}
 
@@ -103,7 +104,8 @@ some_from None P Q s f = tt
 
 -- ---- entries as vectors
 
-find_each : (P : Cells → Type 0) (k : ℕ × ℕ) (xs : List (ℕ × ℕ)) (es : List Cells) (e : Cells) → Each P es → find_entry k xs es ≡ Some e → P e
+-- what holds of each entry holds of the entry of a product
+pub find_each : (P : Cells → Type 0) (k : ℕ × ℕ) (xs : List (ℕ × ℕ)) (es : List Cells) (e : Cells) → Each P es → find_entry k xs es ≡ Some e → P e
 find_each P k [] es e h q = absurd (cc)
 find_each P k (x ∷ xs) [] e h q = absurd (cc)
 find_each P k (x ∷ xs) (d ∷ es) e h q = elim (cases_Bool (same_pair x k)) [
@@ -132,7 +134,7 @@ entry_vector t b c e k h =
 
 -- ---- one degree more
 
-each-in : {X : Type 0} (P : X → Type 0) (xs : List X) → ((x : X) → IsIn x xs → P x) → Each P xs
+pub each-in : {X : Type 0} (P : X → Type 0) (xs : List X) → ((x : X) → IsIn x xs → P x) → Each P xs
 each-in P [] h = tt
 each-in P (x ∷ xs) h = (h x (inl refl), each-in P xs (λ y i. h y (inr i)))
 
@@ -191,13 +193,10 @@ length_gens k zero = refl
 length_gens k (suc n) = ap suc (length_gens (suc k) n)
 
 pub long_enough : (n : ℕ) (es : List Elem) → take n es ≡ map Gen (rising 0 n) → n ≤ length es
-long_enough n es h = elim (side (length es) n) [
+long_enough n es h = elim (cases_lt (length es) n) [
   | inr s ↦ s
   | inl s ↦ let a : take n es ≡ es = take_all n es (omega arith) in let l : length es ≡ n = ap length (sym a ∙ h) ∙ length_gens 0 n in omega arith
 ]
-  where
-    side : (a b : ℕ) → (a < b) ⊎ (b ≤ a)
-    side a b = grind arith
 
 pub extend_table : (t : Table) (new : List PartView) → IsTable t → t.degree < sum t.target → ats new ≡ types_of t.target (t.degree + 1) →
     Each (IsPartOf t.p t.parts (t.parts ++ new)) new → IsCountable (t.parts ++ new) → IsTable (extended t new)

@@ -4,6 +4,7 @@ use Rattle.std.specs.Bool.{◌==◌}
 use Rattle.std.proofs.lemmas.Bool.{cases_Bool, cases_eq, cases_lt, false≢true, eqb-true, eq-eqb}
 use Rattle.std.proofs.lemmas.Bool.Decides.{nat_tests}
 use Rattle.alb_mono.specs.Tree.{Tree, leaf, node, count, type_of}
+use Rattle.alb_mono.proofs.Both.{and_left, and_right}
 use Rattle.alb_poly.specs.Instance.{IsMultilinear, fill}
 use Rattle.alb_poly.proofs.Multilinear.{leaves-multilinear}
 use Rattle.alb_poly.proofs.Parts.{count-leaves, count-within, listed-equal}
@@ -49,14 +50,6 @@ same_type x y = agree (bound x + bound y) x y
 agree-all : (n : ℕ) (x y : Tree) → SameType x y → agree n x y ≡ true
 agree-all zero x y h = refl
 agree-all (suc n) x y h = rw (eq-eqb _ _ (h.counts n), agree-all n x y h)
-
-and_left : (a b : Bool) → (a && b) ≡ true → a ≡ true
-and_left true b h = refl
-and_left false b h = h
-
-and_right : (a b : Bool) → (a && b) ≡ true → b ≡ true
-and_right true b h = h
-and_right false b h = absurd (false≢true h)
 
 agree-below : (n : ℕ) (x y : Tree) → agree n x y ≡ true → (k : ℕ) → k < n → count k x ≡ count k y
 agree-below zero x y h k l = absurd (omega arith)

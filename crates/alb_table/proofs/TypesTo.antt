@@ -15,6 +15,7 @@ use Rattle.alb_mono.proofs.TypesListing.{types_of-listing}
 use Rattle.alb_mono.proofs.ListingLemmas.{each-weaker, each-flat, in-flat, ascends-append}
 use Rattle.alb_table.specs.Table.{types_to}
 use Rattle.alb_table.proofs.PartLemmas.{sum-cons}
+use Rattle.std.proofs.lemmas.Bool.{cases_lt}
 
 pub each-rising : (P : ℕ → Type 0) (k n : ℕ) → ((d : ℕ) → k ≤ d → d < k + n → P d) → Each P (rising k n)
 each-rising P k zero h = tt
@@ -60,13 +61,10 @@ apart t u h e =
     let r : Less ≡ Equal = sym h ∙ q in absurd (cc)
 
 pub degrees_rise : (t u : List ℕ) → cmp_types t u ≡ Less → sum t ≤ sum u
-degrees_rise t u h = elim (side (sum u) (sum t)) [
+degrees_rise t u h = elim (cases_lt (sum u) (sum t)) [
   | inr s ↦ s
   | inl s ↦ absurd (apart t t (cmp_types_total.trans t u t h (degree_first u t s)) refl)
 ]
-  where
-    side : (a b : ℕ) → (a < b) ⊎ (b ≤ a)
-    side a b = grind arith
 
 degrees_above : (target : List ℕ) (k n : ℕ) → Each (λ u. k < sum u) (flat_map (types_of target) (rising (suc k) n))
 degrees_above target k n =

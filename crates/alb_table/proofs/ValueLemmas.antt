@@ -1,6 +1,7 @@
 -- Products and values of rows.
 use Rattle.std.proofs.Common.{◌≡◌, ℕ, ◌+◌, ◌*◌, ◌%◌, ◌<◌, List, [], ◌∷◌, ◌++◌, length, take, get_or, nat_eq, sym, refl, ap, ◌∙◌, arith, append_assoc, subst}
 use Rattle.std.specs.Prelude.{Option, Some, None, unwrap_or, ◌↔◌}
+use Rattle.std.proofs.lemmas.Bool.Decides.{nat_tests}
 use Rattle.std.proofs.lemmas.List.{take_more, map-append, append-nil}
 use Rattle.std.proofs.lemmas.List.Concat.{flat_map-append}
 use Rattle.gf_field.specs.Modular.{IsSameMod}
@@ -10,17 +11,20 @@ use Rattle.gf_sums.proofs.Alike.{Alike, alike-same, same-alike, joined, turned, 
 use Rattle.alb_rows.specs.Row.{Cells, comb, AreSameVector}
 use Rattle.alb_rows.proofs.RowLemmas.{told, zero_is_empty, empty_is_zero}
 use Rattle.alb_mono.specs.Mono.{tree}
-use Rattle.alb_mono.specs.Tree.{Tree, leaf, node}
+use Rattle.alb_mono.specs.Listing.{Each}
+use Rattle.alb_mono.specs.Tree.{Tree, leaf, node, AreBelow}
 use Rattle.alb_poly.specs.declared.term.Term.{Term}
 use Rattle.alb_poly.specs.Terms.{term, terms}
-use Rattle.alb_poly.specs.Algebra.{evaluate}
+use Rattle.alb_poly.specs.Algebra.{evaluate, evaluate_poly, unit}
+use Rattle.alb_poly.specs.Poly.{Poly}
 use Rattle.alb_table.specs.PartView.{PartView}
 use Rattle.alb_table.specs.Entry.{entry_of, table_product}
 use Rattle.alb_table.specs.Table.{Table}
 use Rattle.alb_table.specs.Value.{IsVector, times_right, vectors, generator_vector, table_value}
 
-alike : {p : ℕ} {f g : Comb ℕ} → AreSameVector p f g → Alike p f g
-alike h = alike-same nat_eq told h
+-- equal vectors are alike
+pub vector-alike : {p : ℕ} {f g : Comb ℕ} → AreSameVector p f g → Alike p f g
+vector-alike h = alike-same nat_eq told h
 
 vector : {p : ℕ} {f g : Comb ℕ} → Alike p f g → AreSameVector p f g
 vector h = same-alike nat_eq told h
@@ -40,7 +44,7 @@ pub add_some : (p x : ℕ) (parts : List PartView) (b c : ℕ) (acc next e : Cel
 add_some p x parts b c acc next e q h =
     subst (λ (f : Comb ℕ). AreSameVector p (comb next) (comb acc ++ scale x f)) (sym (ap (λ (o : Option Cells). comb (unwrap_or o [])) q)) h
 
-comb_more : (cells : Cells) (i : ℕ) (d : ℕ × ℕ) → i < length cells → comb (take (i + 1) cells) ≡ comb (take i cells) ++ ((get_or cells i d).1, (get_or cells i d).0) ∷ []
+pub comb_more : (cells : Cells) (i : ℕ) (d : ℕ × ℕ) → i < length cells → comb (take (i + 1) cells) ≡ comb (take i cells) ++ ((get_or cells i d).1, (get_or cells i d).0) ∷ []
 comb_more cells i d h = ap comb (take_more cells i d h) ∙ map-append (λ (c : ℕ × ℕ). (c.1, c.0)) (take i cells) (get_or cells i d ∷ [])
 
 times_more : (parts : List PartView) (x b : ℕ) (f : Comb ℕ) (y k : ℕ) → times_right parts x b (f ++ (y, k) ∷ []) ≡ times_right parts x b f ++ scale (x * y) (table_product parts b k)
@@ -60,7 +64,7 @@ add_more p parts x b cells acc next start i m d u l dd g h n =
     ∙ ap (λ (f : Comb ℕ). comb start ++ f) (sym (ap (times_right parts x b) c ∙ times_more parts x b (comb (take i cells)) d.1 d.0)) in
     let s : IsSameMod p m (x * d.1) = same g ⊙ of_mod (x * d.1) in
     subst (λ (f : Comb ℕ). AreSameVector p (comb next) f) e
-    (vector (joined (alike n) (append-alike (alike h) (scales-alike (table_product parts b d.0) s))))
+    (vector (joined (vector-alike n) (append-alike (vector-alike h) (scales-alike (table_product parts b d.0) s))))
 
 -- one more cell of the left row
 pub multiply_more : (p : ℕ) (parts : List PartView) (left right acc next : Cells) (i : ℕ) (d u : ℕ × ℕ) → i < length left → d ≡ get_or left i u →
@@ -74,18 +78,30 @@ multiply_more p parts left right acc next i d u l dd h n =
     ∙ flat_map-append (λ (s : ℕ × ℕ). times_right parts s.0 s.1 (comb right)) (comb (take i left)) ((d.1, d.0) ∷ [])
     ∙ ap (λ (f : Comb ℕ). multiply (table_product parts) (comb (take i left)) (comb right) ++ f) (append-nil (times_right parts d.1 d.0 (comb right)))) in
     subst (λ (f : Comb ℕ). AreSameVector p (comb next) f) e
-    (vector (joined (alike n) (append-alike (alike h) (itself (times_right parts d.1 d.0 (comb right))))))
+    (vector (joined (vector-alike n) (append-alike (vector-alike h) (itself (times_right parts d.1 d.0 (comb right))))))
 
 -- the value of a product of monomials
 pub product_value : (p : ℕ) (prod : ℕ → ℕ → Comb ℕ) (x y z : Cells) (f g : Comb ℕ) → AreSameVector p (comb x) f → AreSameVector p (comb y) g →
     AreSameVector p (comb z) (multiply prod (comb x) (comb y)) → AreSameVector p (comb z) (multiply prod f g)
-product_value p prod x y z f g h k n = vector (joined (alike n) (multiply-alike prod (alike h) (alike k)))
+product_value p prod x y z f g h k n = vector (joined (vector-alike n) (multiply-alike prod (vector-alike h) (vector-alike k)))
 
 -- equal vectors give equal values
 pub evaluate-same : (prod : ℕ → ℕ → Comb ℕ) (v w : ℕ → Comb ℕ) (m : Tree) → ((k : ℕ) → v k ≡ w k) → evaluate prod v m ≡ evaluate prod w m
 evaluate-same prod v w (leaf k) h = h k
 evaluate-same prod v w (node l r) h =
     ap (λ (f : Comb ℕ). multiply prod f (evaluate prod v r)) (evaluate-same prod v w l h) ∙ ap (multiply prod (evaluate prod w l)) (evaluate-same prod v w r h)
+
+-- so do vectors that are equal at the letters that occur
+pub evaluate-below : (prod : ℕ → ℕ → Comb ℕ) (v w : ℕ → Comb ℕ) (n : ℕ) (m : Tree) → ((k : ℕ) → k < n → v k ≡ w k) → AreBelow n m → evaluate prod v m ≡ evaluate prod w m
+evaluate-below prod v w n (leaf k) h b = h k b
+evaluate-below prod v w n (node l r) h b = rw (evaluate-below prod v w n l h b.0, evaluate-below prod v w n r h b.1) refl
+
+pub poly-below : (prod : ℕ → ℕ → Comb ℕ) (v w : ℕ → Comb ℕ) (n : ℕ) (g : Poly) → ((k : ℕ) → k < n → v k ≡ w k) → Each (λ t. AreBelow n t.1) g → evaluate_poly prod v g ≡ evaluate_poly prod w g
+poly-below prod v w n [] h b = refl
+poly-below prod v w n (t ∷ g) h b = rw (evaluate-below prod v w n t.1 h b.0, poly-below prod v w n g h b.1) refl
+
+pub generator-unit : (n k : ℕ) → k < n → generator_vector n k ≡ unit k
+generator-unit n k h = grind (arith, nat_tests)
 
 terms_more : (ts : List Term) (i : ℕ) (d : Term) → i < length ts → terms (take (i + 1) ts) ≡ terms (take i ts) ++ term (get_or ts i d) ∷ []
 terms_more ts i d h = ap terms (take_more ts i d h) ∙ map-append term (take i ts) (get_or ts i d ∷ [])
@@ -107,7 +123,7 @@ value_more t ts rows acc val next i d l dd v h k n =
     let g : AreSameVector t.p (comb val) (evaluate (table_product t.parts) (generator_vector (length t.target)) (tree d.mono)) =
     subst (λ (f : Comb ℕ). AreSameVector t.p (comb val) f) (evaluate-same (table_product t.parts) (vectors rows) (generator_vector (length t.target)) (tree d.mono) v) k in
     subst (λ (f : Comb ℕ). AreSameVector t.p (comb next) f) e
-    (vector (joined (alike n) (append-alike (alike h) (scale-alike d.coef (alike g)))))
+    (vector (joined (vector-alike n) (append-alike (vector-alike h) (scale-alike d.coef (vector-alike g)))))
 
 -- the zero row
 pub none_vector : (p n : ℕ) → IsVector p n []
@@ -119,6 +135,6 @@ none_vector p n = record {
 -- a row is zero exactly where its value is
 pub zero_exactly : (p n : ℕ) (r : Cells) (f : Comb ℕ) → IsVector p n r → AreSameVector p (comb r) f → (r ≡ []) ↔ AreSameVector p f []
 zero_exactly p n r f v h = (
-  λ e. vector {g = []} (joined (turned (alike {f = comb r} {g = f} h)) (alike {f = comb r} {g = []} (empty_is_zero p r e))),
-  λ z. zero_is_empty p r v.row.row v.row.residues (vector {g = []} (joined (alike {f = comb r} {g = f} h) (alike {f = f} {g = []} z))),
+  λ e. vector {g = []} (joined (turned (vector-alike {f = comb r} {g = f} h)) (vector-alike {f = comb r} {g = []} (empty_is_zero p r e))),
+  λ z. zero_is_empty p r v.row.row v.row.residues (vector {g = []} (joined (vector-alike {f = comb r} {g = f} h) (vector-alike {f = f} {g = []} z))),
 )

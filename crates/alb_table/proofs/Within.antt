@@ -1,20 +1,18 @@
 -- Types within a target.
-use Rattle.std.proofs.Common.{◌≡◌, ℕ, zero, suc, ◌+◌, ◌<◌, ◌≤◌, Bool, true, false, ◌&&◌, List, [], ◌∷◌, length, sym, refl, ap, ◌∙◌, subst, arith, inl, inr, ◌⊎◌, eqb, get_or}
+use Rattle.std.proofs.Common.{◌≡◌, ℕ, zero, suc, ◌+◌, ◌<◌, ◌≤◌, Bool, true, false, List, [], ◌∷◌, length, sym, refl, ap, ◌∙◌, subst, arith, inl, inr, ◌⊎◌, eqb, get_or}
 use Rattle.std.specs.Bool.{IsTrue}
 use Rattle.std.specs.Prelude.{nat_le}
-use Rattle.std.proofs.lemmas.Bool.{cases_eq, cases_lt, false≢true}
+use Rattle.std.proofs.lemmas.Bool.{cases_eq, cases_lt}
 use Rattle.std.proofs.lemmas.Bool.Decides.{nat_tests}
-use Rattle.alb_mono.specs.Tree.{Tree, leaf, node, degree, count, listed, type_of, type_le, AreBelow, are_below}
+use Rattle.alb_mono.specs.Tree.{Tree, leaf, node, degree, count, listed, type_of, type_le, AreBelow}
 use Rattle.alb_poly.specs.Instance.{run}
 use Rattle.alb_mono.proofs.Leaves.{below_from_test}
+use Rattle.alb_mono.proofs.Both.{and_left, and_right}
+pub use Rattle.alb_linear.proofs.LinearLemmas.{test_from_below}
 use Rattle.alb_table.specs.Leading.{SameType}
 use Rattle.alb_table.proofs.Types.{type-turned, type-listed}
 use Rattle.alb_table.proofs.Bases.{IsClosed, IsNext, IsBlock}
 use Rattle.alb_table.specs.Right.{IsOfType, IsWithin}
-
-pub test_from_below : (n : ℕ) (m : Tree) → AreBelow n m → are_below n m ≡ true
-test_from_below n (leaf k) h = grind (arith, nat_tests)
-test_from_below n (node l r) h = rw (test_from_below n l h.0, test_from_below n r h.1)
 
 -- no generator from `n` on occurs
 pub none-past : (n k : ℕ) (m : Tree) → AreBelow n m → n ≤ k → count k m ≡ 0
@@ -59,30 +57,22 @@ top_letter : Tree → ℕ
 top_letter (leaf k) = suc k
 top_letter (node l r) = top_letter l + top_letter r
 
-below-more : (n k : ℕ) (m : Tree) → AreBelow n m → AreBelow (n + k) m
-below-more n k (leaf j) h = omega arith
-below-more n k (node l r) h = (below-more n k l h.0, below-more n k r h.1)
+pub below-more : (n k : ℕ) (m : Tree) → n ≤ k → AreBelow n m → AreBelow k m
+below-more n k (leaf j) h b = omega arith
+below-more n k (node l r) h b = (below-more n k l h b.0, below-more n k r h b.1)
 
 below-top : (m : Tree) → AreBelow (top_letter m) m
 unfolding top_letter
 below-top (leaf k) = omega arith
 below-top (node l r) = (
-  below-more (top_letter l) (top_letter r) l (below-top l),
-  subst (λ n. AreBelow n r) (let e : top_letter r + top_letter l ≡ top_letter l + top_letter r = omega arith in e) (below-more (top_letter r) (top_letter l) r (below-top r)),
+  below-more (top_letter l) (top_letter l + top_letter r) l (omega arith) (below-top l),
+  below-more (top_letter r) (top_letter l + top_letter r) r (omega arith) (below-top r),
 )
 
 pub degree-same : (x y : Tree) → SameType x y → degree x ≡ degree y
 degree-same x y s =
     let n = top_letter x in
     sym (degree-counts n x (below-top x)) ∙ run-equal _ _ 0 n s.counts ∙ degree-counts n y (below-same n x y s (below-top x))
-
-and_left : (a b : Bool) → (a && b) ≡ true → a ≡ true
-and_left true b h = refl
-and_left false b h = h
-
-and_right : (a b : Bool) → (a && b) ≡ true → b ≡ true
-and_right true b h = h
-and_right false b h = absurd (false≢true h)
 
 -- smaller counts are within the same target
 le-listed : (f g : ℕ → ℕ) (k n : ℕ) (u : List ℕ) → ((j : ℕ) → f j ≤ g j) → type_le (listed g k n) u ≡ true → type_le (listed f k n) u ≡ true

@@ -9,26 +9,54 @@ use Rattle.alb_poly.specs.Consequence.{Item, item_value, AreItems, IsConsequence
 use Rattle.alb_table.specs.Leading.{IsNormal, IsCongruent}
 use Rattle.alb_table.specs.Right.{AreHigh, poly_value, IsOfType, IsWithin, IsBasisTo, IsTypeTo, IsRight}
 use Rattle.alb_table.specs.Block.{Grows}
-use Rattle.alb_table.specs.RightTable.{IsRightTable}
-use Rattle.alb_table.specs.Table.{IsTarget, first_table}
+use Rattle.alb_table.specs.PartView.{elems, mono_at}
+use Rattle.alb_table.specs.RightFor.{RulesView, IsRightFor}
+use Rattle.alb_table.specs.RightTable.{mono_entry}
+use Rattle.alb_table.specs.Table.{Table, IsTarget, first_table}
+use Rattle.alb_table.specs.Value.{IsVector, table_value}
+use Rattle.alb_rows.specs.Row.{Cells, comb, AreSameVector}
+use Rattle.gf_sums.specs.Sums.{reindex}
 use Rattle.gf_field.specs.Primes.{IsInTable}
 
 -- both factors of a normal product are normal
 abbrev pub FactorsAreNormal : Type 0
 FactorsAreNormal = (p : ℕ) (fs : List Form) (l r : Tree) → IsNormal p fs (node l r) → IsNormal p fs l × IsNormal p fs r
 
--- what the values in a right table say of the polynomials within it
-pub record DecidesByValues (p : ℕ) (fs : List Form) (entry : Tree → Tree → Poly) (g : Poly) : Type 0 where
-  pub normal : Each (λ t. IsNormal p fs t.1) (poly_value entry g)
-  pub congruent : IsCongruent p fs g (poly_value entry g)
-  pub unique : (h : Poly) → Each (λ t. IsNormal p fs t.1) h → IsCongruent p fs g h → IsSamePoly p h (poly_value entry g)
-  pub zero : IsSamePoly p (poly_value entry g) [] ↔ IsConsequence p fs g
+-- `f` is the one combination of normal monomials that differs from `g` by a consequence, and is zero exactly where `g` is a
+-- consequence
+pub record Decides (p : ℕ) (fs : List Form) (g f : Poly) : Type 0 where
+  pub normal : Each (λ t. IsNormal p fs t.1) f
+  pub congruent : IsCongruent p fs g f
+  pub unique : (h : Poly) → Each (λ t. IsNormal p fs t.1) h → IsCongruent p fs g h → IsSamePoly p h f
+  pub zero : IsSamePoly p f [] ↔ IsConsequence p fs g
 
--- For a polynomial within a right table its value is the one combination of normal monomials that differs from it by a
--- consequence, and is zero exactly where the polynomial is a consequence.
+-- over monomials: the value of a polynomial within a right table decides it
+abbrev pub MonomialValuesDecide : Type 0
+MonomialValuesDecide = (p : ℕ) (fs : List Form) (target : List ℕ) (d : ℕ) (basis : List ℕ → List Tree) (entry : Tree → Tree → Poly) (g : Poly)
+    → 0 < p → AreMultilinear fs → AreHigh fs → IsRight p fs target d basis entry → Each (λ t. IsWithin target d t.1) g → Decides p fs g (poly_value entry g)
+
+-- every monomial of `g` is within the table
+abbrev pub IsPolyWithin : Table → Poly → Type 0
+IsPolyWithin t g = Each (λ s. IsWithin t.target t.degree s.1) g
+
+-- the value of a polynomial within a right table, each basis element replaced by its monomial, is the value over monomials
+abbrev pub ValuesAgree : Type 0
+ValuesAgree = (r : RulesView) (t : Table) (g : Poly) → IsRightFor r t → IsPolyWithin t g
+    → reindex (mono_at t.parts) (table_value t g) ≡ poly_value (mono_entry t.parts) g
+
+-- a row with the value of `g`, as `Tables::value` gives it
+pub record HasValue (t : Table) (g : Poly) (cells : Cells) : Type 0 where
+  pub row : IsVector t.p (length (elems t.parts)) cells
+  pub value : AreSameVector t.p (comb cells) (table_value t g)
+
+-- what the row says of `g`: its polynomial decides it, and it is empty exactly where `g` is a consequence
+pub record DecidesByRow (r : RulesView) (t : Table) (g : Poly) (cells : Cells) : Type 0 where
+  pub decides : Decides t.p r.forms g (reindex (mono_at t.parts) (comb cells))
+  pub empty : (cells ≡ []) ↔ IsConsequence t.p r.forms g
+
+-- the row of the value of a polynomial within a right table decides it
 abbrev pub ValuesDecide : Type 0
-ValuesDecide = (p : ℕ) (fs : List Form) (target : List ℕ) (d : ℕ) (basis : List ℕ → List Tree) (entry : Tree → Tree → Poly) (g : Poly)
-    → 0 < p → AreMultilinear fs → AreHigh fs → IsRight p fs target d basis entry → Each (λ t. IsWithin target d t.1) g → DecidesByValues p fs entry g
+ValuesDecide = (r : RulesView) (t : Table) (g : Poly) (cells : Cells) → IsRightFor r t → IsPolyWithin t g → HasValue t g cells → DecidesByRow r t g cells
 
 -- two tables have the same bases, and equal entries wherever the product is within
 pub record AreSameTables (p : ℕ) (fs : List Form) (target : List ℕ) (d : ℕ) (basis basis' : List ℕ → List Tree) (entry entry' : Tree → Tree → Poly) : Type 0 where
@@ -70,4 +98,4 @@ PartsAreConsequences = (p : ℕ) (fs : List Form) (t : List ℕ) (g : Poly) → 
 
 -- the table of degree 1 is right, for whatever identities of degree 2 or more
 abbrev pub GeneratorsAreRight : Type 0
-GeneratorsAreRight = (p : ℕ) (target : List ℕ) (fs : List Form) → IsInTable p → IsTarget target → AreMultilinear fs → AreHigh fs → IsRightTable fs (first_table p target)
+GeneratorsAreRight = (r : RulesView) → IsInTable r.p → IsTarget r.target → AreMultilinear r.forms → AreHigh r.forms → IsRightFor r (first_table r.p r.target)

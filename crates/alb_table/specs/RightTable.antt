@@ -1,5 +1,5 @@
 -- Right tables: those of the relatively free algebra of some identities.
-use Rattle.std.specs.Prelude.{◌≡◌, ℕ, ◌-◌, ◌<◌, ◌≤◌, List, length, map, sum}
+use Rattle.std.specs.Prelude.{◌≡◌, ℕ, ◌-◌, ◌<◌, ◌≤◌, List, [], length, map, sum}
 use Rattle.alb_mono.specs.Listing.{Each}
 use Rattle.alb_mono.specs.Tree.{Tree}
 use Rattle.alb_mono.specs.Types.{rising}
@@ -25,10 +25,11 @@ abbrev pub instance_at : List PartView → ℕ × List ℕ → ℕ × List Tree
 instance_at parts o = (o.0, map (mono_at parts) o.1)
 
 -- A RIGHT TABLE: its bases are the normal monomials, its entries stand for the products of these, the origins of each type are
--- as many instances as the type has pivots, with the span of all its instances, and no limit is passed.
+-- as many instances as the type has pivots, with the span of all its instances, so none at degree 1, and no limit is passed.
 pub record IsRightTable (fs : List Form) (t : Table) : Type 0 where
   pub right : IsRight t.p fs t.target t.degree (basis_monos t.parts) (mono_entry t.parts)
   pub origins : (w : List ℕ) → length w ≡ length t.target → CoversType t w → 2 ≤ sum w
       → AreOriginsAt t.p fs t.target (sum w - 1) (mono_entry t.parts) w (map (instance_at t.parts) (origins_at t.parts w))
+  pub no_origins : (w : List ℕ) → sum w ≤ 1 → origins_at t.parts w ≡ []
   pub known : Each (λ q. Each (λ o. Each (λ b. b < length (elems t.parts)) o.1) q.origins) t.parts
   pub limits : IsWithinLimits t

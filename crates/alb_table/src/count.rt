@@ -21,8 +21,8 @@ pub(crate) fn count_entries(parts: &[Arc<Stored>]) -> u64
     count
 }
 
-// The number of the cells of rows.
-fn count_cells_in(rows: &[Row]) -> u64
+/// The number of the cells of rows.
+pub fn count_cells(rows: &[Row]) -> u64
     requires { total (λ cells. length cells) rows.now < 2 ^ 64 }
     ensures { result ≡ total (λ cells. length cells) rows.now }
 {
@@ -34,14 +34,14 @@ fn count_cells_in(rows: &[Row]) -> u64
 }
 
 // The number of the cells of all entries.
-pub(crate) fn count_cells(parts: &[Arc<Stored>]) -> u64
+pub(crate) fn count_coefficients(parts: &[Arc<Stored>]) -> u64
     requires { count_coefficients (map view_of parts.now) < 2 ^ 64 }
     ensures { result ≡ count_coefficients (map view_of parts.now) }
 {
     let mut count = 0;
     for k in 0..parts.len() {
         let stored: &Stored = &parts[k];
-        count += count_cells_in(&stored.part.entries);
+        count += count_cells(&stored.part.entries);
     }
     count
 }

@@ -1,7 +1,7 @@
 //! The laws of normal monomials and of right tables (the multiplication tables of Jacobs, *The Albert nonassociative
 //! algebra system*, 1994, over monomials). Each is the contract of a function that does nothing.
 
-ghost use Rattle.alb_table.specs.Laws.{FactorsAreNormal, PartsAreConsequences, ValuesDecide, RightTableIsUnique, RightTablesGrow, FirstTableIsRight, GeneratorsAreRight};
+ghost use Rattle.alb_table.specs.Laws.{FactorsAreNormal, PartsAreConsequences, MonomialValuesDecide, ValuesAgree, ValuesDecide, RightTableIsUnique, RightTablesGrow, FirstTableIsRight, GeneratorsAreRight};
 
 /// Both factors of a normal product are normal.
 pub fn factors_are_normal()
@@ -13,8 +13,19 @@ pub fn parts_are_consequences()
     ensures { PartsAreConsequences }
 {}
 
-/// In a right table the value of a polynomial is its one normal form, and is zero exactly where the polynomial follows from
-/// the identities.
+/// In a right table over monomials the value of a polynomial is its one normal form, and is zero exactly where the polynomial
+/// follows from the identities.
+pub fn monomial_values_decide()
+    ensures { MonomialValuesDecide }
+{}
+
+/// The value of a polynomial in a right table, as a combination of basis elements, is its value over monomials.
+pub fn values_agree()
+    ensures { ValuesAgree }
+{}
+
+/// What `Tables::value` gives for a polynomial within a right table is its one normal form, and is the empty row exactly where
+/// the polynomial follows from the identities.
 pub fn values_decide()
     ensures { ValuesDecide }
 {}

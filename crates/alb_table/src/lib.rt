@@ -14,10 +14,9 @@ mod part;
 mod store;
 mod stored;
 mod tables;
-#[cfg(test)]
-mod tests;
 mod value;
 
+pub use count::count_cells;
 pub use end::BuildEnd;
 pub use grid::Grid;
 pub use held::Held;

@@ -11,7 +11,7 @@ ghost use Rattle.alb_table.specs.Value.{IsVector};
 ghost use Rattle.alb_table.specs.Table.{FactorsBelow, GeneratorBelow, IsTable, IsTarget, IsPartOf, IsCountable, CoversType, count_products, count_coefficients, extended, first_table};
 
 use crate::build::{empty_store, first_parts, grown};
-use crate::count::{count_cells, count_entries};
+use crate::count::{count_coefficients, count_entries};
 use crate::find::{entry_in, find_part, range_of};
 use crate::grid::Grid;
 use crate::part::{Elem, Origin, Part};
@@ -215,7 +215,7 @@ impl Tables {
     pub fn coefficients(&self) -> u64
         ensures { result ≡ count_coefficients self.now.parts }
     {
-        count_cells(&self.store.parts)
+        count_coefficients(&self.store.parts)
     }
 
     /// The monomial of a basis element.

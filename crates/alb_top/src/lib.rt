@@ -6,8 +6,6 @@ mod question;
 mod reply;
 mod run;
 mod script;
-#[cfg(test)]
-mod tests;
 mod turn;
 mod write;
 

@@ -7,7 +7,7 @@ use Rattle.alb_table.specs.PartView.{origin_view}
 use Rattle.alb_block.specs.Asked.{setting}
 use Rattle.alb_block.specs.Instances.{Setting, columns_of}
 use Rattle.alb_block.specs.Offers.{AreKept, HasBefore}
-use Rattle.alb_block.proofs.OfferLemmas.{spans-all, origins-kept, forms-multilinear}
+use Rattle.alb_block.proofs.OfferLemmas.{spans-all, origins-kept}
 use Rattle.alb_block.proofs.MeaningLemmas.{block-at}
 use Rattle.alb_block.proofs.block.reduce_block.Goals as goal
 
@@ -32,7 +32,7 @@ returns-clause-answer c =
     }
 
 pub returns-clause-block : goal.returns-clause-block
-returns-clause-block c = λ right.
+returns-clause-block c =
     let s : Setting = setting c.args.rules.now c.args.tables.now c.args.t.now in
     let names : List (ℕ × List ℕ) = map origin_view c.in_ok-echelon.field-0.origins.items in
     let same : c.in_ok-reduced.reduced ≡ c.in_ok-echelon.field-0.echelon = c.in_ok-reduced.ensures in
@@ -43,6 +43,6 @@ returns-clause-block c = λ right.
     let small : length c.args.tables.now.target ≤ 26 = omega (arith, c.requires.next.long, ap length c.counts.ensures.value, c.counts.ensures.few) in
     let pivots : ArePivots c.args.tables.now.p (kept c.in_ok-reduced.reduced) c.pivots.result.now =
     subst (λ p. ArePivots p (kept c.in_ok-reduced.reduced) c.pivots.result.now) k.field c.pivots.ensures.are in
-    block-at (forms c.args.rules.now) c.args.tables.now c.degree.ensures.table right.right
-    (forms-multilinear c.args.tables.now.p (forms c.args.rules.now) c.requires.rules.linearized) c.requires.rules.high small c.args.t.now c.requires.next
+    block-at (forms c.args.rules.now) c.args.tables.now c.requires.right.table c.requires.right.right.right
+    c.requires.right.multilinear c.requires.right.high small c.args.t.now c.requires.next
     c.in_ok-reduced.reduced (spans-all s c.in_ok-reduced.reduced names k b) c.pivots.result.now pivots names (origins-kept s c.in_ok-reduced.reduced names k)

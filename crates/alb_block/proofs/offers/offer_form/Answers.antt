@@ -3,6 +3,8 @@ use Rattle.std.proofs.lemmas.List.{length-map}
 use Rattle.alb_poly.specs.Rules.{form}
 use Rattle.alb_poly.specs.Consequence.{form_at}
 use Rattle.alb_linear.specs.Identity.{IsLinearized}
+use Rattle.alb_table.specs.RightFor.{rules_view}
+use Rattle.alb_table.proofs.RightForLemmas.{right-linearized}
 use Rattle.alb_subst.specs.Sums.{HasEntries, instance_row}
 use Rattle.alb_block.specs.Asked.{setting}
 use Rattle.alb_block.specs.Instances.{Setting, IsInstance}
@@ -16,7 +18,8 @@ open-requires-clause-few c =
 
 pub row_of-requires-clause-form : goal.row_of-requires-clause-form
 row_of-requires-clause-form c =
-    item-form (IsLinearized c.args.tables.now.p) c.args.rules.now.linears.items c.args.k c.index-f.result.now c.requires.rules.linearized c.requires.form c.index-f.ensures
+    item-form (IsLinearized c.args.tables.now.p) c.args.rules.now.linears.items c.args.k c.index-f.result.now
+    (right-linearized (rules_view c.args.rules.now) c.args.tables.now c.requires.rules c.requires.right) c.requires.form c.index-f.ensures
 
 pub loop-tuple-preserved : goal.loop-tuple-preserved
 loop-tuple-preserved c =

@@ -7,7 +7,6 @@ use Rattle.alb_table.specs.declared.part.Part.{Part}
 use Rattle.alb_block.specs.View.{block_view}
 use Rattle.alb_block.specs.declared.block.Block.{Block}
 use Rattle.alb_build.specs.Part.{count_columns}
-use Rattle.alb_build.proofs.First.{rules-multilinear}
 use Rattle.alb_build.proofs.CellCounts.{coefficients-append}
 use Rattle.alb_build.proofs.Counts.{columns-are, blocks-few, blocks-fit}
 use Rattle.alb_table.proofs.FirstLemmas.{few_generators}
@@ -15,20 +14,21 @@ use Rattle.alb_build.proofs.Few.{right-few}
 use Rattle.alb_build.proofs.Grown.{made-types, grown-parts, grown-countable, grown-table, table-big, new-few}
 use Rattle.alb_build.proofs.NextRight.{next-has}
 use Rattle.alb_build.proofs.NextTable.{next-table}
-use Rattle.alb_table.specs.RightTable.{IsRightTable}
+use Rattle.alb_table.specs.RightFor.{rules_view, IsRightFor}
+use Rattle.alb_table.proofs.RightForLemmas.{right-extended}
 use Rattle.alb_build.proofs.growth.grow.Goals as goal
 
 pub count_products-requires : goal.count_products-requires
 count_products-requires c =
-    let f = blocks-few (forms c.args.rules.now) c.args.tables.now (c.args.tables.now.degree + 1) (map block_view c.args.blocks.items) c.degree.ensures.table.goal c.requires.blocks in
+    let f = blocks-few (forms c.args.rules.now) c.args.tables.now (c.args.tables.now.degree + 1) (map block_view c.args.blocks.items) c.requires.right.table.goal c.requires.blocks in
     let e = ap (λ (bs : List Block). count_columns (map block_view bs)) c.deref.ensures.value in
     omega arith
 
 pub overflow_add-products : goal.overflow_add-products
 overflow_add-products c =
-    let f = blocks-few (forms c.args.rules.now) c.args.tables.now (c.args.tables.now.degree + 1) (map block_view c.args.blocks.items) c.degree.ensures.table.goal c.requires.blocks in
+    let f = blocks-few (forms c.args.rules.now) c.args.tables.now (c.args.tables.now.degree + 1) (map block_view c.args.blocks.items) c.requires.right.table.goal c.requires.blocks in
     let e = ap (λ (bs : List Block). count_columns (map block_view bs)) c.deref.ensures.value in
-    let l = c.requires.right.limits.products in
+    let l = c.requires.right.right.limits.products in
     let x = c.products.ensures in
     let y = c.count_products.ensures in
     omega arith
@@ -46,8 +46,8 @@ parts_of-requires-clause-fit c = blocks-fit (forms c.args.rules.now) c.args.tabl
 
 pub parts_of-requires-clause-room : goal.parts_of-requires-clause-room
 parts_of-requires-clause-room c =
-    let t = c.degree.ensures.table in
-    let f = right-few (forms c.args.rules.now) c.args.tables.now t c.requires.right.right in
+    let t = c.requires.right.table in
+    let f = right-few (forms c.args.rules.now) c.args.tables.now t c.requires.right.right.right in
     let n = few_generators c.args.tables.now.target t.goal in
     let e = ap (λ (bs : List Block). count_columns (map block_view bs)) c.deref.ensures.value in
     let u = c.products.ensures in
@@ -63,7 +63,7 @@ count_part_cells-requires c =
     let u = c.products.ensures in
     let v = c.count_products.ensures in
     let z = c.if-products-gt-MOST_PRODUCTS.false in
-    let f = new-few (forms c.args.rules.now) c.args.tables.now (map block_view c.args.blocks.items) (map part_view c.in_ok-parts.parts.items) c.degree.ensures.table c.requires.blocks c.in_ok-parts.ensures.made
+    let f = new-few (forms c.args.rules.now) c.args.tables.now (map block_view c.args.blocks.items) (map part_view c.in_ok-parts.parts.items) c.requires.right.table c.requires.blocks c.in_ok-parts.ensures.made
     c.in_ok-parts.ensures.small (omega arith) in
     omega arith
 
@@ -71,14 +71,14 @@ pub overflow_add-coefficients : goal.overflow_add-coefficients
 overflow_add-coefficients c =
     let x = c.coefficients.ensures in
     let y = c.count_part_cells.ensures in
-    let l = c.requires.right.limits.coefficients in
+    let l = c.requires.right.right.limits.coefficients in
     let d = ap (λ (ps : List Part). count_coefficients (map part_view ps)) c.deref-2.ensures.value in
     let g = columns-are (forms c.args.rules.now) c.args.tables.now (next_types c.args.tables.now) (map block_view c.args.blocks.items) c.requires.blocks in
     let e = ap (λ (bs : List Block). count_columns (map block_view bs)) c.deref.ensures.value in
     let u = c.products.ensures in
     let v = c.count_products.ensures in
     let z = c.if-products-gt-MOST_PRODUCTS.false in
-    let f = new-few (forms c.args.rules.now) c.args.tables.now (map block_view c.args.blocks.items) (map part_view c.in_ok-parts.parts.items) c.degree.ensures.table c.requires.blocks c.in_ok-parts.ensures.made
+    let f = new-few (forms c.args.rules.now) c.args.tables.now (map block_view c.args.blocks.items) (map part_view c.in_ok-parts.parts.items) c.requires.right.table c.requires.blocks c.in_ok-parts.ensures.made
     c.in_ok-parts.ensures.small (omega arith) in
     omega arith
 
@@ -91,16 +91,16 @@ returns-then-coefficients-gt-MOST_COEFFICIENTS c =
     let v = c.count_products.ensures in
     let z = c.if-products-gt-MOST_PRODUCTS.false in
     let few : next_products c.args.tables.now ≤ 1000000 = omega arith in
-    let f = new-few (forms c.args.rules.now) c.args.tables.now (map block_view c.args.blocks.items) new c.degree.ensures.table c.requires.blocks c.in_ok-parts.ensures.made c.in_ok-parts.ensures.small few in
-    let l = c.requires.right.limits.coefficients in
+    let f = new-few (forms c.args.rules.now) c.args.tables.now (map block_view c.args.blocks.items) new c.requires.right.table c.requires.blocks c.in_ok-parts.ensures.made c.in_ok-parts.ensures.small few in
+    let l = c.requires.right.right.limits.coefficients in
     let k = coefficients-append c.args.tables.now.parts new in
     let d = ap (λ (ps : List Part). count_coefficients (map part_view ps)) c.deref-2.ensures.value in
     let x = c.coefficients.ensures in
     let y = c.count_part_cells.ensures in
     record {
       few = few;
-      next = next-has (forms c.args.rules.now) c.args.tables.now (map block_view c.args.blocks.items) new c.degree.ensures.table (rules-multilinear c.args.rules.now c.args.tables.now c.requires.rules) c.requires.rules.high c.requires.room c.requires.blocks c.in_ok-parts.ensures.made
-          few c.in_ok-parts.ensures.small (omega arith) c.requires.right.right (c.coefficients.result + c.count_part_cells.result) (omega arith);
+      next = next-has (forms c.args.rules.now) c.args.tables.now (map block_view c.args.blocks.items) new c.requires.right.table c.requires.right.multilinear c.requires.right.high c.requires.room c.requires.blocks c.in_ok-parts.ensures.made
+          few c.in_ok-parts.ensures.small (omega arith) c.requires.right.right.right (c.coefficients.result + c.count_part_cells.result) (omega arith);
       many = c.if-coefficients-gt-MOST_COEFFICIENTS.true;
     }
 
@@ -111,7 +111,7 @@ extend-requires-clause-types c =
 
 pub extend-requires-clause-parts : goal.extend-requires-clause-parts
 extend-requires-clause-parts c =
-    grown-parts (forms c.args.rules.now) c.args.tables.now (map block_view c.args.blocks.items) (map part_view c.in_ok-parts.parts.items) c.degree.ensures.table (table-big c.args.tables.now c.degree.ensures.table)
+    grown-parts (forms c.args.rules.now) c.args.tables.now (map block_view c.args.blocks.items) (map part_view c.in_ok-parts.parts.items) c.requires.right.table (table-big c.args.tables.now c.requires.right.table)
     c.requires.blocks c.in_ok-parts.ensures.made
 
 pub extend-requires-clause-countable : goal.extend-requires-clause-countable
@@ -123,10 +123,10 @@ extend-requires-clause-countable c =
     let v = c.count_products.ensures in
     let z = c.if-products-gt-MOST_PRODUCTS.false in
     let few : next_products c.args.tables.now ≤ 1000000 = omega arith in
-    let f = new-few (forms c.args.rules.now) c.args.tables.now (map block_view c.args.blocks.items) new c.degree.ensures.table c.requires.blocks c.in_ok-parts.ensures.made c.in_ok-parts.ensures.small few in
-    let l = c.requires.right.limits.coefficients in
+    let f = new-few (forms c.args.rules.now) c.args.tables.now (map block_view c.args.blocks.items) new c.requires.right.table c.requires.blocks c.in_ok-parts.ensures.made c.in_ok-parts.ensures.small few in
+    let l = c.requires.right.right.limits.coefficients in
     let k = coefficients-append c.args.tables.now.parts new in
-    grown-countable (forms c.args.rules.now) c.args.tables.now (map block_view c.args.blocks.items) new c.degree.ensures.table (table-big c.args.tables.now c.degree.ensures.table) c.requires.blocks
+    grown-countable (forms c.args.rules.now) c.args.tables.now (map block_view c.args.blocks.items) new c.requires.right.table (table-big c.args.tables.now c.requires.right.table) c.requires.blocks
     c.in_ok-parts.ensures.made few c.in_ok-parts.ensures.small (omega arith)
 
 pub returns : goal.returns
@@ -145,14 +145,14 @@ returns c =
     let q = c.if-coefficients-gt-MOST_COEFFICIENTS.false in
     let cells : count_coefficients (c.args.tables.now.parts ++ new) ≤ 16777216 = omega arith in
     let tab : IsTable (extended c.args.tables.now new) =
-    grown-table (forms c.args.rules.now) c.args.tables.now (map block_view c.args.blocks.items) new c.degree.ensures.table (table-big c.args.tables.now c.degree.ensures.table) c.requires.blocks
+    grown-table (forms c.args.rules.now) c.args.tables.now (map block_view c.args.blocks.items) new c.requires.right.table (table-big c.args.tables.now c.requires.right.table) c.requires.blocks
     c.in_ok-parts.ensures.made c.requires.room
-    (grown-countable (forms c.args.rules.now) c.args.tables.now (map block_view c.args.blocks.items) new c.degree.ensures.table (table-big c.args.tables.now c.degree.ensures.table) c.requires.blocks
+    (grown-countable (forms c.args.rules.now) c.args.tables.now (map block_view c.args.blocks.items) new c.requires.right.table (table-big c.args.tables.now c.requires.right.table) c.requires.blocks
     c.in_ok-parts.ensures.made few c.in_ok-parts.ensures.small (omega arith)) in
     record {
       parts = new;
       extends = c.in_ok-extend.ensures;
-      table = subst IsTable (sym c.in_ok-extend.ensures) tab;
-      right = subst (IsRightTable (forms c.args.rules.now)) (sym c.in_ok-extend.ensures)
-          (next-table (forms c.args.rules.now) c.args.tables.now (map block_view c.args.blocks.items) new c.degree.ensures.table tab (rules-multilinear c.args.rules.now c.args.tables.now c.requires.rules) c.requires.rules.high c.requires.blocks c.in_ok-parts.ensures.made c.requires.right few cells);
+      right = subst (IsRightFor (rules_view c.args.rules.now)) (sym c.in_ok-extend.ensures)
+          (right-extended (rules_view c.args.rules.now) c.args.tables.now new c.requires.right tab
+          (next-table (forms c.args.rules.now) c.args.tables.now (map block_view c.args.blocks.items) new c.requires.right.table tab c.requires.right.multilinear c.requires.right.high c.requires.blocks c.in_ok-parts.ensures.made c.requires.right.right few cells));
     }

@@ -26,7 +26,7 @@ pub loop-t-preserved : goal.loop-t-preserved
 loop-t-preserved c =
     let a : suc c.loop-t.t-index ≡ c.loop-t.t-index + 1 = omega arith in
     let b : IsNextBlock (forms c.args.rules.now) c.args.tables.now c.t-item.result (block_view c.in-Ok.block) =
-    record { block = c.in-Ok.ensures.answer; meaning = c.in-Ok.ensures.block c.requires.right } in
+    record { block = c.in-Ok.ensures.answer; meaning = c.in-Ok.ensures.block } in
     let e : map block_view c.push_block.new.blocks.items ≡ map block_view c.loop-t.blocks.items ++ block_view c.in-Ok.block ∷ [] =
     ap (map block_view) c.in_ok-push_block-in-Ok.ensures ∙ map-append block_view c.loop-t.blocks.items (c.in-Ok.block ∷ []) in
     subst (λ k. AreBlocks (forms c.args.rules.now) c.args.tables.now (take k c.deref-t-items.result.now) (map block_view c.push_block.new.blocks.items)) a

@@ -12,7 +12,7 @@ use Rattle.alb_table.specs.Value.{IsVector, vectors}
 use Rattle.alb_rows.specs.Row.{Cells}
 use Rattle.alb_subst.specs.Sums.{Adds}
 use Rattle.alb_subst.proofs.InstanceLemmas.{pair, unit_row, unit_vectors, positions_known, residue_known, adds_zeros, zero_residues, kept_whole, adds_term, adds_instance}
-use Rattle.alb_subst.proofs.TupleLaw.{each_from_all}
+use Rattle.alb_linear.proofs.LinearLemmas.{each_from_all}
 use Rattle.alb_subst.proofs.row.instance_sums.Goals as goal
 
 pub loop-t-init : goal.loop-t-init

@@ -1,6 +1,6 @@
 use Rattle.std.proofs.Common.{◌∙◌, sym}
 use Rattle.alb_syntax.proofs.Again.{denoted-again}
-use Rattle.alb_syntax.proofs.Binds.{ok_is}
+use Rattle.alb_lex.proofs.Binds.{ok_is}
 use Rattle.alb_syntax.proofs.Found.{denoted-found}
 use Rattle.alb_syntax.specs.Reading.{Setting}
 use Rattle.alb_syntax.proofs.laws.polynomials.Goals as goal

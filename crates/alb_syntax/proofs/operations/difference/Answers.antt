@@ -1,5 +1,5 @@
 use Rattle.std.proofs.Common.{sym}
-use Rattle.alb_syntax.proofs.Binds.{ok_is}
+use Rattle.alb_lex.proofs.Binds.{ok_is}
 use Rattle.alb_syntax.proofs.Kept.{kept-residues, kept-above_one, counted-kept, difference-counted}
 use Rattle.alb_syntax.proofs.operations.difference.Goals as goal
 

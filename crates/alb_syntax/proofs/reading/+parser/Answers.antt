@@ -5,7 +5,7 @@ use Rattle.alb_poly.specs.Normal.{normal}
 use Rattle.alb_poly.specs.Terms.{terms}
 use Rattle.alb_syntax.specs.Setting.{setting}
 use Rattle.alb_syntax.specs.Reading.{each, bracketed, begins_atom, is_star, is_sign, factor, star, signed}
-use Rattle.alb_syntax.proofs.Binds.{ok_is}
+use Rattle.alb_lex.proofs.Binds.{ok_is}
 use Rattle.alb_syntax.proofs.Loose.{loose-terms, normal-terms}
 use Rattle.alb_syntax.proofs.Turns.{goes_on, fails, stops}
 use Rattle.alb_syntax.proofs.Shrinks.{bracketed-shrinks, factor-part, star-part, signed-part, poly-single}

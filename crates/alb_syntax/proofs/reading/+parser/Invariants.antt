@@ -44,7 +44,10 @@ abbrev pub decreases-bracket : goal.decreases-bracket
 decreases-bracket l = l.left * 16 + 0
 
 abbrev pub decreases-round : goal.decreases-round
-decreases-round l = l.left * 16 + 14
+decreases-round l = l.left * 16 + 15
+
+abbrev pub decreases-two_more : goal.decreases-two_more
+decreases-two_more l = l.left * 16 + 14
 
 abbrev pub decreases-square : goal.decreases-square
 decreases-square l = l.left * 16 + 14

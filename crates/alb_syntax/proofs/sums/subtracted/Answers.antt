@@ -4,7 +4,7 @@ use Rattle.alb_poly.specs.Normal.{normal}
 use Rattle.alb_poly.specs.Terms.{terms}
 use Rattle.alb_syntax.specs.Gives.{Gives}
 use Rattle.alb_syntax.specs.Operations.{sum}
-use Rattle.alb_syntax.proofs.Binds.{ok_is}
+use Rattle.alb_lex.proofs.Binds.{ok_is}
 use Rattle.alb_syntax.proofs.Kept.{kept-above_one}
 use Rattle.alb_syntax.proofs.Loose.{difference-sum}
 use Rattle.alb_syntax.proofs.sums.subtracted.Goals as goal

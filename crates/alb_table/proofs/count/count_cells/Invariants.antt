@@ -1,7 +1,6 @@
-use Rattle.std.proofs.Common.{◌≡◌, ◌+◌, drop, map}
-use Rattle.alb_table.specs.Table.{count_coefficients}
-use Rattle.alb_table.specs.Views.{view_of}
+use Rattle.std.proofs.Common.{◌≡◌, ◌+◌, drop, length}
+use Rattle.gf_sums.specs.Sums.{total}
 use Rattle.alb_table.proofs.count.count_cells.Given as goal
 
-abbrev pub invariant-loop-k : goal.invariant-loop-k
-invariant-loop-k l = l.count + count_coefficients (map view_of (drop l.k l.parts)) ≡ count_coefficients (map view_of l.parts)
+abbrev pub invariant-loop-row : goal.invariant-loop-row
+invariant-loop-row l = l.count + total (λ cells. length cells) (drop l.row-index l.rows) ≡ total (λ cells. length cells) l.rows

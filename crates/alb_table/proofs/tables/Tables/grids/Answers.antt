@@ -1,4 +1,4 @@
-use Rattle.std.proofs.Common.{rules, ◌≡◌, ◌∙◌, ◌<◌, sym, ap, subst, length, arith}
+use Rattle.std.proofs.Common.{◌≡◌, ◌∙◌, ◌<◌, sym, ap, subst, length, arith}
 use Rattle.std.specs.List.{flat_map}
 use Rattle.alb_table.specs.Grid.{cells_of, ArePairsBelow}
 use Rattle.alb_table.specs.PartView.{elems, part_at}

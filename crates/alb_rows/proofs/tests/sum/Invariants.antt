@@ -1,5 +1,0 @@
-use Rattle.alb_rows.specs.Row.{AreResidues}
-use Rattle.alb_rows.proofs.tests.sum.Given as goal
-
-abbrev pub invariant-loop-column : goal.invariant-loop-column
-invariant-loop-column l = AreResidues l.field l.row
