@@ -69,6 +69,13 @@ pub record AreNewEntries (r : Reduction) (numbers : List ℕ) (entries : List Ce
   pub full : length entries ≡ length numbers
   pub each : (k : ℕ) → k < length numbers → IsNewEntry r numbers k (slice_index_or entries k [])
 
+-- the basis elements and the entries of the part of a block, whose first basis element has the number `first`
+pub record AreMade (first : ℕ) (b : BlockView) (basis : List Elem) (entries : List Cells) : Type 0 where
+  pub free : List Bool
+  pub are_free : AreFree b.reduced (length b.columns) free
+  pub elements : basis ≡ elements_of (reverse b.columns) free
+  pub new_entries : AreNewEntries b.reduced (numbers_from first free) entries
+
 -- the part of a block, whose first basis element has the number `first`
 pub record IsPartMade (first : ℕ) (b : BlockView) (q : PartView) : Type 0 where
   pub at : q.at ≡ b.at

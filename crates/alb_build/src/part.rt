@@ -3,11 +3,12 @@ ghost use Rattle.std.specs.Prelude.{◌≡◌, ◌+◌, ◌<◌, ◌^◌, length
 ghost use Rattle.alb_mono.specs.Listing.{Each};
 ghost use Rattle.alb_table.specs.PartView.{part_view, elems};
 ghost use Rattle.alb_block.specs.View.{block_view};
-ghost use Rattle.alb_build.specs.Part.{elements_of, FitsBlock, ArePartsOf, IsPartMade, count_columns};
+ghost use Rattle.alb_build.specs.Part.{elements_of, FitsBlock, AreMade, ArePartsOf, IsPartMade, count_columns};
 
 use crate::entry::{entries_of, free_products, numbers_of};
 use alb_block::Block;
 use alb_mono::NoMemory;
+use alb_rows::Row;
 use alb_subst::Columns;
 use alb_table::{Elem, Part, Tables};
 use gf_field::Field;
@@ -29,16 +30,31 @@ fn basis_of(alloc: Global, columns: &Columns, free: &[bool]) -> Result<Vec<Elem>
     Ok(out)
 }
 
+// The basis elements and the entries of the part of a block, whose first basis element has the number `first`.
+fn made_of(
+    alloc: Global,
+    field: &Field,
+    first: u32,
+    block: &Block,
+) -> Result<(Vec<Elem>, Vec<Row>), NoMemory>
+    requires fits { FitsBlock field.now (block_view block.now) }
+    requires room { first + length block.now.columns < 2 ^ 32 }
+    ensures { IfOk result (λ r. AreMade first (block_view block.now) r.0.items r.1.items) }
+{
+    let free = free_products(alloc, block)?;
+    let numbers = numbers_of(alloc, first, &free)?;
+    let basis = basis_of(alloc, &block.columns, &free)?;
+    let entries = entries_of(alloc, field, block, &numbers)?;
+    Ok((basis, entries))
+}
+
 // The part of a block, whose first basis element has the number `first`.
 fn part_of(alloc: Global, field: &Field, first: u32, block: Block) -> Result<Part, NoMemory>
     requires fits { FitsBlock field.now (block_view block) }
     requires room { first + length block.columns < 2 ^ 32 }
     ensures { IfOk result (λ q. IsPartMade first (block_view block) (part_view q)) }
 {
-    let free = free_products(alloc, &block)?;
-    let numbers = numbers_of(alloc, first, &free)?;
-    let basis = basis_of(alloc, &block.columns, &free)?;
-    let entries = entries_of(alloc, field, &block, &numbers)?;
+    let (basis, entries) = made_of(alloc, field, first, &block)?;
     let Block {
         at,
         columns: _,
