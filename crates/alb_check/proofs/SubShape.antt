@@ -20,7 +20,8 @@ use Rattle.alb_table.specs.Right.{IsTypeTo}
 use Rattle.alb_table.specs.Table.{Table, IsTable, IsPartOf, IsElementOf, IsRowAmong}
 use Rattle.alb_table.specs.declared.part.Elem.{Elem}
 use Rattle.alb_table.specs.declared.part.Elem.TheVariants.{Gen, Prod}
-use Rattle.alb_table.proofs.PartLemmas.{elems_step, list_eq-itself, list_eq-sound}
+use Rattle.alb_poly.proofs.Types.{list_eq-itself, list_eq-sound}
+use Rattle.alb_table.proofs.PartLemmas.{elems_step}
 use Rattle.alb_table.proofs.RangeLemmas.{type_first, type_later, type_of_range}
 use Rattle.alb_table.proofs.TableLemmas.{type_shape, long_enough}
 use Rattle.alb_check.specs.declared.raw.RawEntry.{RawEntry}

@@ -18,10 +18,10 @@ use Rattle.alb_poly.specs.Context.{beside, within}
 use Rattle.alb_poly.specs.Instance.{Form, fill, instance, leaves, IsMultilinear}
 use Rattle.alb_poly.specs.Consequence.{Item, form_at, IsItem, AreItems, IsConsequence, AreMultilinear}
 use Rattle.alb_poly.specs.Identity.{IsAtMost, IsWithin}
-use Rattle.alb_poly.proofs.AtMost.{at_most_or_zero}
 use Rattle.alb_poly.proofs.Consequence.{value, poly_alike, alike_poly, itself'}
 use Rattle.alb_poly.proofs.Multilinear.{each-append, each-map, each-from}
 use Rattle.alb_poly.proofs.Orders.{flat-map, map-map}
+use Rattle.alb_poly.proofs.Terms.{absent-or}
 use Rattle.alb_poly.proofs.Parts.{multilinear_at, count-leaves, listed-equal}
 use Rattle.alb_problem.proofs.Keep.{item_leaves}
 use Rattle.alb_deriv.specs.Derivation.{Line, Instance, Times, AreAllBelow, are_within}
@@ -111,7 +111,7 @@ module _ (target : List ℕ) (fs : List Form) (multi : AreMultilinear fs) (it : 
 
   -- so it is a polynomial over those
   item-over : sum target ≤ 12 → {p : ℕ} (y : Tree) → IsIn y (monos_within target) ⊎ IsSameMod p (coefficient same_tree (item_poly fs it) y) 0
-  item-over small y = elim (at_most_or_zero target (item_poly fs it) y poly-at_most) [
+  item-over small y = elim (absent-or (IsAtMost target) (item_poly fs it) y poly-at_most) [
     | inl a ↦ inl (all-within target y small a)
     | inr z ↦ inr (same z)
   ]

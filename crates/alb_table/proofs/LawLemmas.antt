@@ -9,7 +9,7 @@ use Rattle.alb_poly.specs.Consequence.{Item, item_value}
 use Rattle.alb_poly.proofs.Consequence.{alike_poly, poly_alike}
 use Rattle.alb_poly.proofs.Multilinear.{each-from, each-map}
 use Rattle.alb_linear.proofs.IdentityLemmas.{list_eq-sound}
-use Rattle.alb_table.specs.Laws.{FactorsAreNormal, MonomialValuesDecide, RightTableIsUnique, RightTablesGrow, FirstTableIsRight, PartsAreConsequences}
+use Rattle.alb_table.specs.Laws.{FactorsAreNormal, MonomialValuesDecide, RightTableIsUnique, RightTablesGrow, FirstTableIsRight}
 use Rattle.alb_table.proofs.Types.{type-listed}
 use Rattle.alb_table.proofs.Normal.{normal-left, normal-right}
 use Rattle.alb_table.proofs.Values.{each-scale}
@@ -42,23 +42,3 @@ right-tables-grow p fs target d basis basis' entry entry' pos multi high big r g
 
 pub first-table : FirstTableIsRight
 first-table p fs target basis entry multi high f = first-right p fs multi high target basis entry f.generators f.none
-
--- whether a monomial has the type
-abbrev has_type : List ℕ → Tree → Bool
-has_type t m = list_eq (type_of (length t) m) t
-
-item-types : (fs : List Form) (t : List ℕ) (it : Item) → Passes fs (has_type t) it → Each (λ s. type_of (length t) s.1 ≡ t) (item_value fs it)
-item-types fs t it h =
-    each-scale (λ m. type_of (length t) m ≡ t) it.coef _
-    (each-map (λ s. has_type t (within it.context s.1) ≡ true) (λ s. type_of (length t) s.1 ≡ t) _ _ (λ s k. list_eq-sound _ t k)
-    (each-map (λ s. has_type t (within it.context (fill it.args s.1)) ≡ true) (λ s. has_type t (within it.context s.1) ≡ true) _ _ (λ s k. k) h))
-
-pub parts-are-consequences : PartsAreConsequences
-parts-are-consequences p fs t g multi c =
-    let k : Kept p fs (has_type t) g = consequence-kept p fs multi (has_type t) (λ x y s. ap (λ u. list_eq u t) (type-listed (length t) x y s)) g c in
-    record {
-      items = k.items;
-      are = k.are;
-      types = each-from (Passes fs (has_type t)) _ k.items (λ it h. item-types fs t it h) k.pass;
-      same = poly_alike k.alike;
-    }

@@ -16,7 +16,7 @@ use Rattle.alb_poly.specs.Consequence.{IsConsequence}
 use Rattle.alb_poly.specs.Poly.{Poly, IsSamePoly}
 use Rattle.alb_poly.proofs.Consequence.{tree_tells, alike_poly, poly_alike}
 use Rattle.alb_rows.specs.Row.{Cells, comb, AreSameVector}
-use Rattle.alb_rows.proofs.RowLemmas.{told}
+use Rattle.gf_sums.proofs.Totals.{numbers-tell}
 use Rattle.alb_table.specs.Entry.{table_product}
 use Rattle.alb_table.specs.Laws.{Decides, IsPolyWithin, HasValue, ValuesAgree, ValuesDecide}
 use Rattle.alb_table.specs.Leading.{IsNormal}
@@ -84,7 +84,7 @@ module _ (r : RulesView) (t : Table) (h : IsRightFor r t) where
   -- different basis elements have different monomials
   pub monos-apart : (i j : ℕ) → i < length (elems t.parts) → j < length (elems t.parts) → same_tree (mono_at t.parts i) (mono_at t.parts j) ≡ nat_eq i j
   monos-apart i j a b = elim (cases_Bool (nat_eq i j)) [
-    | inl e ↦ let q : i ≡ j = told.sound i j e in rw (e, q) (tree_tells.whole (mono_at t.parts j))
+    | inl e ↦ let q : i ≡ j = numbers-tell.sound i j e in rw (e, q) (tree_tells.whole (mono_at t.parts j))
     | inr e ↦ rw e (others i j a b e)
   ]
 
@@ -109,7 +109,7 @@ module _ (r : RulesView) (t : Table) (h : IsRightFor r t) where
       row = reindex (mono_at t.parts) (comb cells)
 
       pub row-alike : Alike t.p row (poly_value (mono_entry t.parts) g)
-      row-alike = subst (Alike t.p row) value-monos (reindex-alike (mono_at t.parts) (alike-same nat_eq told v.value))
+      row-alike = subst (Alike t.p row) value-monos (reindex-alike (mono_at t.parts) (alike-same nat_eq numbers-tell v.value))
 
       columns : Each (λ s. s.1 < length (elems t.parts)) (comb cells)
       columns = columns-below (length (elems t.parts)) cells v.row.below
@@ -130,7 +130,7 @@ module _ (r : RulesView) (t : Table) (h : IsRightFor r t) where
       }
 
       row-zero : IsSamePoly t.p row [] → AreSameVector t.p (comb cells) []
-      row-zero z = λ j. elim (each-coefficient nat_eq told (λ i. i < length (elems t.parts)) (comb cells) j columns) [
+      row-zero z = λ j. elim (each-coefficient nat_eq numbers-tell (λ i. i < length (elems t.parts)) (comb cells) j columns) [
         | inl l ↦ subst (λ n. IsSameMod t.p n 0) (coefficient-reindex (λ i. i < length (elems t.parts)) nat_eq same_tree (mono_at t.parts) monos-apart (comb cells) j l columns) (z (mono_at t.parts j))
         | inr e ↦ subst (λ n. IsSameMod t.p n 0) (sym e) (same refl)
       ]

@@ -9,7 +9,8 @@ use Rattle.gf_field.proofs.Mod.{same, ◌⊙◌, of_mod}
 use Rattle.gf_sums.specs.Sums.{Comb, scale, multiply}
 use Rattle.gf_sums.proofs.Alike.{Alike, alike-same, same-alike, joined, turned, itself, append-alike, scale-alike, scales-alike, multiply-alike}
 use Rattle.alb_rows.specs.Row.{Cells, comb, AreSameVector}
-use Rattle.alb_rows.proofs.RowLemmas.{told, zero_is_empty, empty_is_zero}
+use Rattle.gf_sums.proofs.Totals.{numbers-tell}
+use Rattle.alb_rows.proofs.RowLemmas.{zero_is_empty, empty_is_zero}
 use Rattle.alb_mono.specs.Mono.{tree}
 use Rattle.alb_mono.specs.Listing.{Each}
 use Rattle.alb_mono.specs.Tree.{Tree, leaf, node, AreBelow}
@@ -24,10 +25,10 @@ use Rattle.alb_table.specs.Value.{IsVector, times_right, vectors, generator_vect
 
 -- equal vectors are alike
 pub vector-alike : {p : ℕ} {f g : Comb ℕ} → AreSameVector p f g → Alike p f g
-vector-alike h = alike-same nat_eq told h
+vector-alike h = alike-same nat_eq numbers-tell h
 
 vector : {p : ℕ} {f g : Comb ℕ} → Alike p f g → AreSameVector p f g
-vector h = same-alike nat_eq told h
+vector h = same-alike nat_eq numbers-tell h
 
 -- equal lists are equal vectors
 pub same_lists : (p : ℕ) (f g : Comb ℕ) → f ≡ g → AreSameVector p f g

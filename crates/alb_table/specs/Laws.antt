@@ -85,17 +85,6 @@ abbrev pub FirstTableIsRight : Type 0
 FirstTableIsRight = (p : ℕ) (fs : List Form) (target : List ℕ) (basis : List ℕ → List Tree) (entry : Tree → Tree → Poly)
     → AreMultilinear fs → AreHigh fs → IsFirst target basis → IsRight p fs target 1 basis entry
 
--- `g` is a consequence by items all of whose monomials have the type `t`
-pub record IsConsequenceOfType (p : ℕ) (fs : List Form) (t : List ℕ) (g : Poly) : Type 0 where
-  pub items : List Item
-  pub are : AreItems fs items
-  pub types : Each (λ it. Each (λ s. type_of (length t) s.1 ≡ t) (item_value fs it)) items
-  pub same : IsSamePoly p g (flat_map (item_value fs) items)
-
--- each homogeneous part of a consequence is a consequence, by items of its type
-abbrev pub PartsAreConsequences : Type 0
-PartsAreConsequences = (p : ℕ) (fs : List Form) (t : List ℕ) (g : Poly) → AreMultilinear fs → IsConsequence p fs g → IsConsequenceOfType p fs t (part t g)
-
 -- the table of degree 1 is right, for whatever identities of degree 2 or more
 abbrev pub GeneratorsAreRight : Type 0
 GeneratorsAreRight = (r : RulesView) → IsInTable r.p → IsTarget r.target → AreMultilinear r.forms → AreHigh r.forms → IsRightFor r (first_table r.p r.target)

@@ -1,16 +1,11 @@
 //! The laws of normal monomials and of right tables (the multiplication tables of Jacobs, *The Albert nonassociative
 //! algebra system*, 1994, over monomials). Each is the contract of a function that does nothing.
 
-ghost use Rattle.alb_table.specs.Laws.{FactorsAreNormal, PartsAreConsequences, MonomialValuesDecide, ValuesAgree, ValuesDecide, RightTableIsUnique, RightTablesGrow, FirstTableIsRight, GeneratorsAreRight};
+ghost use Rattle.alb_table.specs.Laws.{FactorsAreNormal, MonomialValuesDecide, ValuesAgree, ValuesDecide, RightTableIsUnique, RightTablesGrow, FirstTableIsRight, GeneratorsAreRight};
 
 /// Both factors of a normal product are normal.
 pub fn factors_are_normal()
     ensures { FactorsAreNormal }
-{}
-
-/// Each homogeneous part of a consequence is a consequence, by items of its type.
-pub fn parts_are_consequences()
-    ensures { PartsAreConsequences }
 {}
 
 /// In a right table over monomials the value of a polynomial is its one normal form, and is zero exactly where the polynomial

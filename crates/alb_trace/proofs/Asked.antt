@@ -21,7 +21,7 @@ use Rattle.alb_table.proofs.Right.{consequence-zero_value}
 use Rattle.alb_table.proofs.TableLemmas.{type_shape}
 use Rattle.alb_query.specs.Answer.{Zero, NotBuilt, OutOfType, misfit, IsAnswer, AnswersUnless, AnswersFitting}
 use Rattle.alb_query.proofs.AnswerLemmas.{all-within}
-use Rattle.alb_trace.specs.Given.{IsRightFor}
+use Rattle.alb_trace.specs.Given.{IsRightOver}
 use Rattle.alb_trace.specs.Origins.{product_type}
 use Rattle.alb_trace.specs.Recipes.{IsProduct}
 use Rattle.alb_trace.specs.Trace.{mono_less}
@@ -62,7 +62,7 @@ pub answered-within : (p : ℕ) (fs : List Form) (target : List ℕ) (d : ℕ) (
 answered-within p fs target d g a = let z = zero-within p fs target d g a in all-within target d g z.fits z.low
 
 -- what has the answer zero is the sum of its monomials less their values
-pub answered-sum : (fs : List Form) (t : Table) → IsRightFor fs t → (g : Poly) → IsAnswer t.p fs t.target t.degree g Zero → (ls : List Line) (cs : List (ℕ × ℕ)) → IsSumOf t.p fs ls cs (spread (mono_less t) g) →
+pub answered-sum : (fs : List Form) (t : Table) → IsRightOver fs t → (g : Poly) → IsAnswer t.p fs t.target t.degree g Zero → (ls : List Line) (cs : List (ℕ × ℕ)) → IsSumOf t.p fs ls cs (spread (mono_less t) g) →
     IsSumOf t.p fs ls cs g
 unfolding mono_less
 answered-sum fs t r g a ls cs s =

@@ -17,7 +17,7 @@ use Rattle.alb_poly.specs.Algebra.{unit}
 use Rattle.alb_poly.specs.Poly.{Poly, list_eq}
 use Rattle.alb_poly.specs.Instance.{Form, IsMultilinearForm}
 use Rattle.alb_poly.specs.Consequence.{form_at}
-use Rattle.alb_poly.proofs.Multilinear.{each-from}
+use Rattle.alb_poly.proofs.Multilinear.{each-from, each_from_all}
 use Rattle.alb_poly.proofs.Parts.{multilinear_at}
 use Rattle.alb_table.specs.Leading.{IsZeroAt}
 use Rattle.alb_table.specs.PartView.{PartView, elems, origins_at, mono_at}
@@ -44,13 +44,12 @@ use Rattle.alb_subst.specs.Sums.{instance_row}
 use Rattle.alb_block.specs.Asked.{setting_of}
 use Rattle.alb_block.specs.Instances.{columns_of, instance_vector}
 use Rattle.alb_block.specs.Meaning.{column_monos}
-use Rattle.alb_block.proofs.ListLemmas.{each-all}
 use Rattle.alb_block.proofs.Vectors.{cells_of, entry-cells, cells-over, cells-below}
-use Rattle.alb_query.proofs.ValueLemmas.{columns-below}
+use Rattle.alb_table.proofs.RightTables.{columns-below}
 use Rattle.alb_poly.proofs.Consequence.{itself'}
 use Rattle.alb_block.proofs.ColumnLemmas.{columns-are, columns-in}
 use Rattle.alb_block.proofs.InstanceLemmas.{row-monos, row-in, vector-pairs}
-use Rattle.alb_trace.specs.Given.{IsRightFor}
+use Rattle.alb_trace.specs.Given.{IsRightOver}
 use Rattle.alb_trace.specs.Origins.{origin_at, origin_row, IsOriginBlock}
 use Rattle.alb_trace.specs.Trace.{product_less}
 use Rattle.alb_trace.proofs.OfferedLemmas.{with_past, number_below, reduced_through}
@@ -116,7 +115,7 @@ origins-known P (q ∷ qs) w a = elim (cases_Bool (list_eq q.at w)) [
   | inr e ↦ rw e (origins-known P qs w a.1)
 ]
 
-module _ (fs : List Form) (t : Table) (g : IsRightFor fs t) (w : List ℕ) (cov : CoversType t w) (long : length w ≡ length t.target) (big : 2 ≤ sum w) where
+module _ (fs : List Form) (t : Table) (g : IsRightOver fs t) (w : List ℕ) (cov : CoversType t w) (long : length w ≡ length t.target) (big : 2 ≤ sum w) where
   -- the degree below
   abbrev pub low : ℕ
   low = sum w - 1
@@ -288,7 +287,7 @@ module _ (fs : List Form) (t : Table) (g : IsRightFor fs t) (w : List ℕ) (cov 
           let reduced : Vectors.IsReducedRow t.p family j v = reduced_through t.p (kept r) family j v spans-family
           (subst (λ p. Vectors.IsReducedRow p (kept r) j v) block.offered_all.field k.gives) in
           let e = entry-exists t.p (pos fs t g) cols j v in
-          let numbers : Each (λ s. s.1 < length names) items = each-all (λ s. s.1 < length names) items (λ i d l. number_below r.offers (length names) (get_or items i d).1 block.offered_all.below (k.tags i d l)) in
+          let numbers : Each (λ s. s.1 < length names) items = each_from_all (λ s. s.1 < length names) items (λ i d l. number_below r.offers (length names) (get_or items i d).1 block.offered_all.below (k.tags i d l)) in
           let places : Each (λ s. s.1 < length instances) items = each-from (λ s. s.1 < length names) _ items (λ s l. omega (arith, l, count)) numbers in
           let x = origin-entry t.p (pos fs t g) fs g.multilinear g.high t.target low some (basis_monos t.parts) entries right w to next cols are instances other kept-origins.named
           family family-rows family-past kept-origins.spans j here v reduced e.0 e.1 items places (λ i. refl)

@@ -18,7 +18,7 @@ use Rattle.alb_poly.specs.Rules.{forms}
 use Rattle.alb_poly.specs.declared.rules.Rules.{Rules}
 use Rattle.alb_poly.proofs.Multilinear.{each-from}
 use Rattle.alb_linear.specs.Identity.{IsLinearized}
-use Rattle.alb_block.specs.Asked.{AreRules}
+use Rattle.alb_trace.specs.Given.{AreFormsOver}
 use Rattle.alb_poly.proofs.Consequence.{poly_alike, tree_tells}
 use Rattle.alb_poly.proofs.NormalLemmas.{descending-canonical}
 use Rattle.alb_poly.proofs.Terms.{canonical-coefficients}
@@ -115,5 +115,5 @@ pub first-long-of : (target : List ℕ) (n : ℕ) (f : Poly) (top : List ℕ) �
 first-long-of target n f top e h = ap length (sym h.type) ∙ length-type_of n h.term.1 ∙ e
 
 -- rules stand for multilinear forms
-pub rules-multilinear : (rules : Rules) (t : Table) → AreRules rules t → AreMultilinear (forms rules)
+pub rules-multilinear : (rules : Rules) (t : Table) → AreFormsOver rules t → AreMultilinear (forms rules)
 rules-multilinear rules t r = each-from (IsLinearized t.p) IsMultilinearForm (forms rules) (λ f h. h.multilinear) r.linearized

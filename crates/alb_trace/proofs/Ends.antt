@@ -9,7 +9,7 @@ use Rattle.alb_poly.specs.Poly.{Poly}
 use Rattle.alb_poly.specs.Instance.{Form}
 use Rattle.alb_poly.specs.Rules.{form, forms}
 use Rattle.alb_poly.specs.declared.rules.Rules.{Rules}
-use Rattle.alb_block.specs.Asked.{AreRules}
+use Rattle.alb_trace.specs.Given.{AreFormsOver}
 use Rattle.alb_poly.proofs.Consequence.{alike_poly, poly_alike}
 use Rattle.alb_linear.proofs.LinearLemmas.{each_from_all}
 use Rattle.alb_deriv.specs.Derivation as value
@@ -26,7 +26,7 @@ use Rattle.alb_trace.specs.declared.trace.Trace.{Trace}
 use Rattle.alb_trace.proofs.TraceLemmas.{next-sum}
 
 -- rules stand for forms that can be numbered
-pub rules-few : (rules : Rules) (t : Table) → AreRules rules t → length (forms rules) < 10 ^ 18
+pub rules-few : (rules : Rules) (t : Table) → AreFormsOver rules t → length (forms rules) < 10 ^ 18
 rules-few rules t r = omega (arith, r.few, length-map rules.linears.items form)
 
 -- lines that can be printed have residues, and factors of degree at most 64

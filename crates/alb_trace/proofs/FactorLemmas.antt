@@ -23,10 +23,11 @@ use Rattle.alb_table.specs.Right.{mono_value, IsWithin}
 use Rattle.alb_table.specs.RightTable.{mono_entry}
 use Rattle.alb_table.specs.Table.{Table}
 use Rattle.alb_table.proofs.Spans.{spread-alike}
-use Rattle.alb_query.proofs.ValueLemmas.{mono-known, mono-degree}
+use Rattle.alb_table.proofs.TableValues.{mono-known, mono-degree}
 use Rattle.alb_trace.specs.Adds.{item_times}
 use Rattle.alb_trace.specs.declared.trace.Trace.{Trace}
-use Rattle.alb_trace.specs.Given.{IsRightFor, FitsTarget, IsPartOf, IsValueRow}
+use Rattle.alb_trace.specs.Given.{IsRightOver, FitsTarget, IsPartOf, IsValueRow}
+use Rattle.alb_trace.proofs.Premises.{rules_at, right-at}
 use Rattle.alb_trace.specs.Trace.{most_items, mono_less, Derives, Pushes}
 use Rattle.alb_trace.proofs.PushLemmas.{spread-reindex, pushes-next, pushes-item}
 use Rattle.alb_trace.proofs.Splits.{image-split}
@@ -36,7 +37,7 @@ use Rattle.alb_trace.proofs.ValueRows.{pos, over, value-parts}
 pub scale-joined : {p : ℕ} (c : ℕ) (x y : Poly) → Alike p (scale c x ++ scale c y) (scale c (x ++ y))
 scale-joined c x y = itself' _ _ (sym (map-append (λ (s : ℕ × Tree). (c * s.0, s.1)) x y))
 
-module _ (fs : List Form) (t : Table) (g : IsRightFor fs t) where
+module _ (fs : List Form) (t : Table) (g : IsRightOver fs t) where
   -- both factors of a product within are within
   pub within-left : (l r : Tree) → IsWithin t.target t.degree (node l r) → IsWithin t.target t.degree l
   within-left l r w = (over fs t g).closed.left l r w
@@ -72,10 +73,10 @@ module _ (fs : List Form) (t : Table) (g : IsRightFor fs t) where
   -- one more part of the value of the left factor
   module _ (l r : Tree) (cells : Cells) (v : IsValueRow fs t l cells) (k : ℕ) (d : ℕ × ℕ) (here : k < length cells) (b : Tree) (is : b ≡ mono_at t.parts (get_or cells k d).0) where
     pub left-known : IsTrue (are_below (length t.target) b)
-    left-known = subst (λ x. IsTrue (are_below (length t.target) x)) (sym is) (mono-known fs t g.table g.right (get_or cells k d).0 (v.vector.below k d here))
+    left-known = subst (λ x. IsTrue (are_below (length t.target) x)) (sym is) (mono-known (rules_at fs t) t (right-at fs t g) (get_or cells k d).0 (v.vector.below k d here))
 
     pub left-small : degree b ≤ 64
-    left-small = subst (λ x. degree x ≤ 64) (sym is) (mono-degree fs t g.table g.right (get_or cells k d).0 (v.vector.below k d here))
+    left-small = subst (λ x. degree x ≤ 64) (sym is) (mono-degree (rules_at fs t) t (right-at fs t g) (get_or cells k d).0 (v.vector.below k d here))
 
     pub left-fitting : IsWithin t.target t.degree (node l r) → FitsTarget t (reindex (beside (Left, b)) (mono_less t r))
     left-fitting w = left-fits l r b w (subst (IsPartOf fs t l) (sym is) (v.parts k d here))

@@ -1,3 +1,4 @@
+pub mod Premises
 pub mod Splits
 pub mod Recipe
 pub mod OriginEntry

@@ -24,7 +24,7 @@ use Rattle.alb_table.proofs.Right.{element-columns_at}
 use Rattle.alb_table.proofs.RangeLemmas.{ats, entries_full}
 use Rattle.alb_table.proofs.TypesTo.{types_to-all}
 use Rattle.alb_block.specs.Instances.{columns_of}
-use Rattle.alb_trace.specs.Given.{IsRightFor}
+use Rattle.alb_trace.specs.Given.{IsRightOver}
 use Rattle.alb_trace.proofs.BlockEntries.{next, some, to, entries, cols, are, kept-origins, over-low}
 use Rattle.alb_trace.proofs.ValueRows.{pos}
 
@@ -37,7 +37,7 @@ entries-few n (q ∷ qs) w a = elim (cases_Bool (list_eq q.at w)) [
   | inr e ↦ rw e (entries-few n qs w a.1)
 ]
 
-pub products-few : (fs : List Form) (t : Table) (w : List ℕ) → IsRightFor fs t → CoversType t w → length w ≡ length t.target → 0 < sum w → length (products t.parts w) ≤ 4096
+pub products-few : (fs : List Form) (t : Table) (w : List ℕ) → IsRightOver fs t → CoversType t w → length w ≡ length t.target → 0 < sum w → length (products t.parts w) ≤ 4096
 products-few fs t w g cov long some =
     let i : IsIn w (ats t.parts) = subst (IsIn w) (sym g.table.types) (types_to-all t.target t.degree w (record { long = long; within = cov.within; some = some; degree_le = cov.degree_le })) in
     let e : length (entries_at t.parts w) ≡ length (products t.parts w) =
@@ -88,7 +88,7 @@ module _ (Column : Tree → Type 0) (cols : List Tree) (are : AreColumns Column 
 
 -- ---- kept instances
 
-pub origins-few : (fs : List Form) (t : Table) (g : IsRightFor fs t) (w : List ℕ) (cov : CoversType t w) (long : length w ≡ length t.target) (big : 2 ≤ sum w) →
+pub origins-few : (fs : List Form) (t : Table) (g : IsRightOver fs t) (w : List ℕ) (cov : CoversType t w) (long : length w ≡ length t.target) (big : 2 ≤ sum w) →
     length (origins_at t.parts w) ≤ length (columns_of t.parts w)
 origins-few fs t g w cov long big =
     let o = kept-origins fs t g w cov long big in

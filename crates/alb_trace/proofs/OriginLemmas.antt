@@ -5,7 +5,7 @@ use Rattle.gf_sums.specs.Sums.{total}
 use Rattle.alb_mono.specs.Mono.{tree}
 use Rattle.alb_mono.specs.Tree.{degree, are_below, listed, type_le, count as count_of}
 use Rattle.alb_mono.specs.declared.mono.Mono.{Mono}
-use Rattle.alb_poly.proofs.Multilinear.{each-from}
+use Rattle.alb_poly.proofs.Multilinear.{each-from, all_from_each}
 use Rattle.alb_poly.specs.Normal.{normal}
 use Rattle.alb_deriv.specs.Derivation as value
 use Rattle.alb_deriv.specs.Derivation.{are_within}
@@ -32,9 +32,8 @@ use Rattle.alb_subst.specs.Sums.{HasEntries, instance_row}
 use Rattle.alb_block.specs.Asked.{setting_of}
 use Rattle.alb_block.specs.Instances.{columns_of}
 use Rattle.alb_block.specs.Offers.{IsRowOf}
-use Rattle.alb_block.proofs.ListLemmas.{all-each}
 use Rattle.alb_block.proofs.OfferLemmas.{form_item, item-form, row-of}
-use Rattle.alb_trace.specs.Given.{IsRightFor, IsProductType}
+use Rattle.alb_trace.specs.Given.{IsRightOver, IsProductType}
 use Rattle.alb_trace.specs.Origins.{origin_at, origin_instance}
 use Rattle.alb_trace.specs.Trace.{most_items, lines_of, IsTrace}
 use Rattle.alb_trace.specs.declared.trace.Trace.{Trace}
@@ -43,7 +42,7 @@ use Rattle.alb_trace.proofs.ValueRows.{pos}
 use Rattle.alb_trace.proofs.BlockEntries.{origin-named, origin-below, origin-long}
 use Rattle.alb_trace.proofs.LimitLemmas.{products-few, origins-few}
 
-module _ (ls : List Linear) (t : Table) (g : IsRightFor (map form ls) t) (w : List ℕ) (ty : IsProductType t w) where
+module _ (ls : List Linear) (t : Table) (g : IsRightOver (map form ls) t) (w : List ℕ) (ty : IsProductType t w) where
   -- a type has at most 4096 products
   pub few-products : length (products t.parts w) ≤ 4096
   few-products = products-few (map form ls) t w g ty.covered ty.long (omega (arith, ty.big))
@@ -71,7 +70,7 @@ module _ (ls : List Linear) (t : Table) (g : IsRightFor (map form ls) t) (w : Li
           omega (arith, h, length-map ls form, ap (λ s. s.0) view)
 
       pub args-below : All (λ b. b < length (elems t.parts)) o.args.items
-      args-below = all-each (λ b. b < length (elems t.parts)) o.args.items
+      args-below = all_from_each (λ b. b < length (elems t.parts)) o.args.items
           (subst (Each (λ b. b < length (elems t.parts))) (sym (ap (λ s. s.1) view)) (origin-below (map form ls) t g w ty.covered ty.long ty.big k among))
 
       module _ (f : Linear) (at : f ≡ get_or ls o.identity f) where
@@ -99,10 +98,10 @@ module _ (ls : List Linear) (t : Table) (g : IsRightFor (map form ls) t) (w : Li
           monos-within = each-unmap (IsWithin t.target (sum w - 1)) tree ms (each-from _ _ (map tree ms) (λ m b. b.within) named.basis)
 
           pub monos-known : All (λ m. IsTrue (are_below (length t.target) (tree m))) ms
-          monos-known = all-each (λ m. IsTrue (are_below (length t.target) (tree m))) ms (each-from _ _ ms (λ m h. h.below) monos-within)
+          monos-known = all_from_each (λ m. IsTrue (are_below (length t.target) (tree m))) ms (each-from _ _ ms (λ m h. h.below) monos-within)
 
           pub monos-small : All (λ m. degree (tree m) ≤ 64) ms
-          monos-small = all-each (λ m. degree (tree m) ≤ 64) ms (each-from (λ m. IsWithin t.target (sum w - 1) (tree m)) _ ms (λ m h. (
+          monos-small = all_from_each (λ m. degree (tree m) ≤ 64) ms (each-from (λ m. IsWithin t.target (sum w - 1) (tree m)) _ ms (λ m h. (
               let n : degree (tree m) ≤ sum w - 1 = h.degree in
               let l : sum w ≤ t.degree = ty.covered.degree_le in
               let u : t.degree ≤ sum t.target = g.table.within in

@@ -41,7 +41,7 @@ use Rattle.alb_table.proofs.TableLemmas.{type_shape}
 use Rattle.alb_table.proofs.Types.{type-listed, type-node}
 use Rattle.alb_table.proofs.Within.{degree-same}
 use Rattle.alb_trace.specs.Adds.{IsLonger}
-use Rattle.alb_trace.specs.Given.{IsRightFor, IsProductType, IsPartOf, IsValueRow}
+use Rattle.alb_trace.specs.Given.{IsRightOver, IsProductType, IsPartOf, IsValueRow}
 use Rattle.alb_trace.specs.Origins.{origin_at, product_type, origin_row, origin_instance}
 use Rattle.alb_trace.specs.Recipes.{IsProduct}
 use Rattle.alb_trace.specs.Trace.{lines_of, product_less, mono_less, image_less, entries_less, IsTrace, Pushes}
@@ -139,7 +139,7 @@ module _ (fs : List Form) (t : Table) where
   pub pushes-nothing : (s : Trace) (before : List (ℕ × ℕ)) → IsTrace fs t s → Pushes fs t s s before before []
   pushes-nothing s before h = pushes-itself fs t s before [] h (itself [])
 
-module _ (fs : List Form) (t : Table) (g : IsRightFor fs t) where
+module _ (fs : List Form) (t : Table) (g : IsRightOver fs t) where
   -- ---- the products of the parts of two values
 
   part-degree : (m : Tree) (b : ℕ) → b < length (elems t.parts) → IsPartOf fs t m (mono_at t.parts b) → sum (type_at t.parts b) ≡ degree m

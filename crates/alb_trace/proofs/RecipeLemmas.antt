@@ -26,7 +26,7 @@ use Rattle.alb_subst.proofs.SumLemmas.{pairs_tell}
 use Rattle.alb_block.specs.Instances.{columns_of}
 use Rattle.alb_block.specs.Meaning.{column_monos}
 use Rattle.alb_block.proofs.ListLemmas.{in-reverse, in_place}
-use Rattle.alb_trace.specs.Given.{IsRightFor}
+use Rattle.alb_trace.specs.Given.{IsRightOver}
 use Rattle.alb_trace.specs.Origins.{product_type, IsOriginBlock}
 use Rattle.alb_trace.specs.Recipes.{IsProduct, IsRecipeFor}
 use Rattle.alb_trace.specs.Trace.{product_less}
@@ -42,7 +42,7 @@ position-in q xs h e =
     let t : same_pair q q ≡ true = pairs_tell.whole q in
     let z : same_pair q q ≡ false = subst (λ x. same_pair q x ≡ false) (k.2 q) f in absurd (cc)
 
-module _ (fs : List Form) (t : Table) (g : IsRightFor fs t) (b c : ℕ) (p : IsProduct t (b, c)) where
+module _ (fs : List Form) (t : Table) (g : IsRightOver fs t) (b c : ℕ) (p : IsProduct t (b, c)) where
   listed : IsIn (b, c) (products t.parts (product_type t (b, c)))
   listed =
       let x = type_shape t b g.table p.left in

@@ -114,7 +114,7 @@ module _ (fs : List Form) (t : Table) (multi : AreMultilinear fs) (high : AreHig
 
 -- EACH ANSWER IS SHOWN
 pub each-is-shown : EachIsShown
-each-is-shown fs t g a multi high few tab right is = shown-unless fs t multi high tab right few g a (misfit t.target g) refl is
+each-is-shown r t g a h few is = shown-unless r.forms t h.multilinear h.high h.table h.right few g a (misfit t.target g) refl is
 
 -- ---- what is shown is accepted
 

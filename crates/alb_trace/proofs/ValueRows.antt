@@ -24,13 +24,15 @@ use Rattle.alb_table.proofs.GeneratorLemmas.{above_one}
 use Rattle.alb_table.proofs.Numbers.{coefficient-reindex}
 use Rattle.alb_table.proofs.Right.{right-table}
 use Rattle.alb_table.proofs.Values.{value-stands}
-use Rattle.alb_query.proofs.ValueLemmas.{columns-below, apart, row-alike}
-use Rattle.alb_trace.specs.Given.{IsRightFor, IsPartOf, IsValueRow}
+use Rattle.alb_table.proofs.RightTables.{columns-below}
+use Rattle.alb_table.proofs.TableValues.{monos-apart, row-alike}
+use Rattle.alb_trace.specs.Given.{IsRightOver, IsPartOf, IsValueRow}
+use Rattle.alb_trace.proofs.Premises.{rules_at, right-at}
 
 one : {p : ℕ} (f : Poly) → Alike p (scale 1 f ++ []) f
 one f = equal _ _ (λ w. let e : weigh w [] ≡ 0 = refl in omega (arith, weigh-append w (scale 1 f) [], weigh-scale w 1 f))
 
-module _ (fs : List Form) (t : Table) (g : IsRightFor fs t) where
+module _ (fs : List Form) (t : Table) (g : IsRightOver fs t) where
   pub pos : 0 < t.p
   pos = omega (arith, above_one t g.table)
 
@@ -45,7 +47,7 @@ module _ (fs : List Form) (t : Table) (g : IsRightFor fs t) where
   module _ (m : Tree) (w : IsWithin t.target t.degree m) (cells : Cells) (vector : IsVector t.p (length (elems t.parts)) cells)
       (is : AreSameVector t.p (comb cells) (table_value t ((1, m) ∷ []))) where
     value-alike : Alike t.p (reindex (mono_at t.parts) (comb cells)) (mono_value (mono_entry t.parts) m)
-    value-alike = joined (row-alike fs t g.table g.right pos g.multilinear g.high ((1, m) ∷ []) (w, tt) cells vector is) (one (mono_value (mono_entry t.parts) m))
+    value-alike = joined (row-alike (rules_at fs t) t (right-at fs t g) ((1, m) ∷ []) (w, tt) cells (record { row = vector; value = is })) (one (mono_value (mono_entry t.parts) m))
 
     cell-part : (k : ℕ) (d : ℕ × ℕ) → k < length cells → IsPartOf fs t m (mono_at t.parts (get_or cells k d).0)
     cell-part k d l =
@@ -55,7 +57,7 @@ module _ (fs : List Form) (t : Table) (g : IsRightFor fs t) where
         let b : cell.0 < length (elems t.parts) = vector.below k d l in
         let found : entry cells cell.0 ≡ cell.1 = entry_found cells k cell.0 vector.row.row l (ap (λ s. s.0) first) ∙ ap (λ s. s.1) first in
         let moved : coefficient same_tree (reindex (mono_at t.parts) (comb cells)) x ≡ entry cells cell.0 =
-        coefficient-reindex (λ i. i < length (elems t.parts)) (λ i j. nat_eq i j) same_tree (mono_at t.parts) (apart fs t g.table g.right pos g.multilinear g.high) (comb cells) cell.0 b
+        coefficient-reindex (λ i. i < length (elems t.parts)) (λ i j. nat_eq i j) same_tree (mono_at t.parts) (monos-apart (rules_at fs t) t (right-at fs t g)) (comb cells) cell.0 b
         (columns-below (length (elems t.parts)) cells vector.below) in
         elim (each-coefficient same_tree tree_tells (IsPartOf fs t m) (mono_value (mono_entry t.parts) m) x (value-parts m w)) [
           | inl part ↦ part

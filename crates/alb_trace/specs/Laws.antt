@@ -2,10 +2,8 @@
 use Rattle.std.specs.Prelude.{◌≡◌, ◌<◌, ◌^◌, List, length, None}
 use Rattle.alb_poly.specs.Poly.{Poly}
 use Rattle.alb_poly.specs.Instance.{Form}
-use Rattle.alb_poly.specs.Consequence.{AreMultilinear}
-use Rattle.alb_table.specs.Right.{AreHigh}
-use Rattle.alb_table.specs.RightTable.{IsRightTable}
-use Rattle.alb_table.specs.Table.{Table, IsTable}
+use Rattle.alb_table.specs.RightFor.{RulesView, IsRightFor}
+use Rattle.alb_table.specs.Table.{Table}
 use Rattle.alb_query.specs.Answer.{Answer, IsAnswer}
 use Rattle.alb_deriv.specs.Derivation.{claim_fault}
 use Rattle.alb_check.specs.Verdict.{IsVerdict}
@@ -14,8 +12,8 @@ use Rattle.alb_trace.specs.Proof.{Shown, ByLines, ByTable, ByNothing, Shows}
 
 -- each answer to a question about a polynomial, by a right table of forms that can be numbered, is shown by something
 abbrev pub EachIsShown : Type 0
-EachIsShown = (fs : List Form) (t : Table) (g : Poly) (a : Answer) → AreMultilinear fs → AreHigh fs → length fs < 10 ^ 18 → IsTable t → IsRightTable fs t
-    → IsAnswer t.p fs t.target t.degree g a → (s : Shown) × Shows fs t g a s
+EachIsShown = (r : RulesView) (t : Table) (g : Poly) (a : Answer) → IsRightFor r t → length r.forms < 10 ^ 18 → IsAnswer t.p r.forms t.target t.degree g a
+    → (s : Shown) × Shows r.forms t g a s
 
 -- the judges of evidence accept what is shown
 abbrev pub IsAcceptedFor : List Form → Table → Poly → Shown → Type 0

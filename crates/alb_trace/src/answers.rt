@@ -7,12 +7,11 @@ ghost use Rattle.alb_poly.specs.Rules.{forms};
 ghost use Rattle.alb_table.specs.Block.{spread};
 ghost use Rattle.alb_table.specs.PartView.{elems};
 ghost use Rattle.alb_table.specs.Right.{IsWithin};
-ghost use Rattle.alb_table.specs.RightTable.{IsRightTable};
+ghost use Rattle.alb_table.specs.RightFor.{rules_view, AreRules, IsRightFor};
 ghost use Rattle.alb_table.specs.Table.{Table, IsTable, CoversType};
-ghost use Rattle.alb_block.specs.Asked.{AreRules};
 ghost use Rattle.alb_query.specs.Answer.{Zero, IsAnswer};
 ghost use Rattle.alb_trace.specs.Answer.{AreLinesFor};
-ghost use Rattle.alb_trace.specs.Given.{IsRightFor};
+ghost use Rattle.alb_trace.specs.Given.{AreFormsOver, IsRightOver};
 ghost use Rattle.alb_trace.specs.Origins.{product_type};
 ghost use Rattle.alb_trace.specs.Trace.{product_less, mono_less, IsTrace, Derives, Pushes};
 ghost use Rattle.alb_trace.specs.declared.trace.Trace.{Trace};
@@ -76,8 +75,8 @@ pub fn derive_entry(
     b: u32,
     c: u32,
 ) -> Result<Vec<Line>, NoMemory>
-    requires rules { AreRules rules.now tables.now }
-    requires right { IsRightTable (forms rules.now) tables.now }
+    requires rules { AreRules (rules_view rules.now) }
+    requires right { IsRightFor (rules_view rules.now) tables.now }
     requires left_factor { b < length (elems tables.now.parts) }
     requires right_factor { c < length (elems tables.now.parts) }
     requires covered { CoversType tables.now (product_type tables.now (b, c)) }
@@ -95,8 +94,8 @@ pub fn derive_monomial(
     tables: &Tables,
     m: &Mono,
 ) -> Result<Vec<Line>, NoMemory>
-    requires rules { AreRules rules.now tables.now }
-    requires right { IsRightTable (forms rules.now) tables.now }
+    requires rules { AreRules (rules_view rules.now) }
+    requires right { IsRightFor (rules_view rules.now) tables.now }
     requires within { IsWithin tables.now.target tables.now.degree (tree m.now) }
     ensures { IfOk result (λ v. AreLinesFor (forms rules.now) tables.now (mono_less tables.now (tree m.now)) v.items) }
 {
@@ -114,8 +113,8 @@ fn push_terms(
     items: &mut Vec<(Residue, u64)>,
     g: &Poly,
 ) -> Result<(), NoMemory>
-    requires rules { AreRules rules.now tables.now }
-    requires right { IsRightFor (forms rules.now) tables.now }
+    requires rules { AreFormsOver rules.now tables.now }
+    requires right { IsRightOver (forms rules.now) tables.now }
     requires trace { IsTrace (forms rules.now) tables.now trace.old }
     requires residues { AreResidues tables.now.p g.now }
     requires within { All (λ s. IsWithin tables.now.target tables.now.degree s.1) g.now }
@@ -135,8 +134,8 @@ pub fn derive(
     tables: &Tables,
     g: &Poly,
 ) -> Result<Vec<Line>, NoMemory>
-    requires rules { AreRules rules.now tables.now }
-    requires right { IsRightTable (forms rules.now) tables.now }
+    requires rules { AreRules (rules_view rules.now) }
+    requires right { IsRightFor (rules_view rules.now) tables.now }
     requires residues { AreResidues tables.now.p g.now }
     requires zero { IsAnswer tables.now.p (forms rules.now) tables.now.target tables.now.degree g.now Zero }
     ensures { IfOk result (λ v. AreLinesFor (forms rules.now) tables.now g.now v.items) }

@@ -15,7 +15,7 @@ ghost use Rattle.alb_table.specs.Right.{mono_value, IsWithin};
 ghost use Rattle.alb_table.specs.RightTable.{mono_entry};
 ghost use Rattle.alb_table.specs.Table.{Table};
 ghost use Rattle.alb_trace.specs.Adds.{item_of};
-ghost use Rattle.alb_trace.specs.Given.{IsRightFor, FitsTarget, IsValueRow};
+ghost use Rattle.alb_trace.specs.Given.{IsRightOver, FitsTarget, IsValueRow};
 ghost use Rattle.alb_trace.specs.Trace.{lines_of, mono_less, IsTrace, Derives, Pushes};
 
 use crate::lines::{push_item, push_line};
@@ -31,7 +31,7 @@ use std::alloc::Global;
 // The value of a monomial, as a row over basis elements.
 pub(crate) fn value_of(alloc: Global, tables: &Tables, m: &Mono) -> Result<Row, NoMemory>
     requires { IsWithin tables.now.target tables.now.degree (tree m.now) }
-    ensures { (fs : List Form) → IsRightFor fs tables.now → IfOk result (λ r. IsValueRow fs tables.now (tree m.now) r) }
+    ensures { (fs : List Form) → IsRightOver fs tables.now → IfOk result (λ r. IsValueRow fs tables.now (tree m.now) r) }
 {
     prove!(tables.degree() > 0);
     prove!(tables.field().p() > 1);
@@ -74,7 +74,7 @@ pub(crate) fn push_lefts(
     l: &Mono,
     line: Option<u64>,
 ) -> Result<(), NoMemory>
-    requires right { IsRightFor (forms rules.now) tables.now }
+    requires right { IsRightOver (forms rules.now) tables.now }
     requires trace { IsTrace (forms rules.now) tables.now trace.old }
     requires residue { c < tables.now.p }
     requires within { IsWithin tables.now.target tables.now.degree (tree l.now) }

@@ -7,8 +7,7 @@ ghost use Rattle.alb_poly.specs.Poly.{AreResidues};
 ghost use Rattle.alb_poly.specs.Rules.{forms};
 ghost use Rattle.alb_table.specs.PartView.{elems, mono_at, origins_at};
 ghost use Rattle.alb_table.specs.Table.{IsTable};
-ghost use Rattle.alb_block.specs.Asked.{AreRules};
-ghost use Rattle.alb_trace.specs.Given.{IsRightFor, IsProductType};
+ghost use Rattle.alb_trace.specs.Given.{AreFormsOver, IsRightOver, IsProductType};
 ghost use Rattle.alb_trace.specs.Origins.{origin_instance};
 ghost use Rattle.alb_trace.specs.Trace.{IsTrace, Pushes};
 
@@ -45,8 +44,8 @@ pub(crate) fn push_instance(
     t: &Multi,
     k: u32,
 ) -> Result<Poly, NoMemory>
-    requires rules { AreRules rules.now tables.now }
-    requires right { IsRightFor (forms rules.now) tables.now }
+    requires rules { AreFormsOver rules.now tables.now }
+    requires right { IsRightOver (forms rules.now) tables.now }
     requires trace { IsTrace (forms rules.now) tables.now trace.old }
     requires residue { c < tables.now.p }
     requires product { IsProductType tables.now t.now }

@@ -4,9 +4,9 @@ ghost use Rattle.alb_poly.specs.Poly.{IsSamePoly};
 ghost use Rattle.alb_poly.specs.Rules.{forms};
 ghost use Rattle.alb_table.specs.PartView.{origins_at};
 ghost use Rattle.alb_table.specs.Table.{CoversType};
-ghost use Rattle.alb_block.specs.Asked.{setting, AreRules};
+ghost use Rattle.alb_block.specs.Asked.{setting};
 ghost use Rattle.alb_block.specs.Instances.{columns_of};
-ghost use Rattle.alb_trace.specs.Given.{IsRightFor, IsProductType};
+ghost use Rattle.alb_trace.specs.Given.{AreFormsOver, IsRightOver, IsProductType};
 ghost use Rattle.alb_trace.specs.Origins.{HasOffered, IsOriginBlock, product_type};
 ghost use Rattle.alb_trace.specs.Recipes.{HasBlock, IsProduct, IsRecipeFor};
 ghost use Rattle.alb_trace.specs.Trace.{lines_of, product_less, IsTrace};
@@ -35,7 +35,7 @@ fn open_columns(
     tables: &Tables,
     t: &Multi,
 ) -> Result<Columns, NoMemory>
-    requires right { IsRightFor (forms rules.now) tables.now }
+    requires right { IsRightOver (forms rules.now) tables.now }
     requires product { IsProductType tables.now t.now }
     ensures { IfOk result (λ c. c ≡ columns_of tables.now.parts t.now) }
 {
@@ -54,8 +54,8 @@ fn offer_origins(
     t: &Multi,
     columns: &Columns,
 ) -> Result<Echelon, NoMemory>
-    requires rules { AreRules rules.now tables.now }
-    requires right { IsRightFor (forms rules.now) tables.now }
+    requires rules { AreFormsOver rules.now tables.now }
+    requires right { IsRightOver (forms rules.now) tables.now }
     requires product { IsProductType tables.now t.now }
     requires columns_are { columns.now ≡ columns_of tables.now.parts t.now }
     ensures { IfOk result (λ r. HasOffered (setting rules.now tables.now t.now) r (origins_at tables.now.parts t.now) (length (origins_at tables.now.parts t.now))) }
@@ -79,8 +79,8 @@ pub(crate) fn open_block(
     tables: &Tables,
     t: &Multi,
 ) -> Result<OriginBlock, NoMemory>
-    requires rules { AreRules rules.now tables.now }
-    requires right { IsRightFor (forms rules.now) tables.now }
+    requires rules { AreFormsOver rules.now tables.now }
+    requires right { IsRightOver (forms rules.now) tables.now }
     requires product { IsProductType tables.now t.now }
     ensures at { IfOk result (λ b. b.at ≡ t.now) }
     ensures block { IfOk result (λ b. IsOriginBlock (forms rules.now) tables.now t.now b.columns b.reduced) }
@@ -103,8 +103,8 @@ fn block_at(
     trace: &mut Trace,
     t: &Multi,
 ) -> Result<usize, NoMemory>
-    requires rules { AreRules rules.now tables.now }
-    requires right { IsRightFor (forms rules.now) tables.now }
+    requires rules { AreFormsOver rules.now tables.now }
+    requires right { IsRightOver (forms rules.now) tables.now }
     requires product { IsProductType tables.now t.now }
     requires trace { IsTrace (forms rules.now) tables.now trace.old }
     ensures place { IfOk result (λ k. HasBlock t.now k trace.new) }
@@ -131,7 +131,7 @@ fn recipe_in(
     b: u32,
     c: u32,
 ) -> Result<Option<Vec<(Residue, u32)>>, NoMemory>
-    requires right { IsRightFor (forms rules.now) tables.now }
+    requires right { IsRightOver (forms rules.now) tables.now }
     requires product { IsProduct tables.now (b, c) }
     requires block { IsOriginBlock (forms rules.now) tables.now (product_type tables.now (b, c)) block.now.columns block.now.reduced }
     ensures { IfOk result (λ r. MatchOption r (IsSamePoly tables.now.p (product_less tables.now (b, c)) []) (λ v. IsRecipeFor (forms rules.now) tables.now (b, c) v.items)) }
@@ -154,8 +154,8 @@ pub(crate) fn recipe(
     b: u32,
     c: u32,
 ) -> Result<Option<Vec<(Residue, u32)>>, NoMemory>
-    requires rules { AreRules rules.now tables.now }
-    requires right { IsRightFor (forms rules.now) tables.now }
+    requires rules { AreFormsOver rules.now tables.now }
+    requires right { IsRightOver (forms rules.now) tables.now }
     requires trace { IsTrace (forms rules.now) tables.now trace.old }
     requires product { IsProduct tables.now (b, c) }
     ensures trace { OnOk result (IsTrace (forms rules.now) tables.now trace.new) }

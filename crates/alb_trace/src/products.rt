@@ -9,8 +9,7 @@ ghost use Rattle.alb_rows.specs.Row.{comb};
 ghost use Rattle.alb_table.specs.Block.{spread};
 ghost use Rattle.alb_table.specs.PartView.{elems, origins_at};
 ghost use Rattle.alb_table.specs.Right.{IsWithin};
-ghost use Rattle.alb_block.specs.Asked.{AreRules};
-ghost use Rattle.alb_trace.specs.Given.{IsRightFor, IsProductType, IsValueRow};
+ghost use Rattle.alb_trace.specs.Given.{AreFormsOver, IsRightOver, IsProductType, IsValueRow};
 ghost use Rattle.alb_trace.specs.Origins.{origin_row};
 ghost use Rattle.alb_trace.specs.Recipes.{IsProduct, IsRecipeFor};
 ghost use Rattle.alb_trace.specs.Trace.{product_less, mono_less, image_less, entries_less, IsTrace, Derives, Pushes};
@@ -37,8 +36,8 @@ pub(crate) fn monomial(
     trace: &mut Trace,
     m: &Mono,
 ) -> Result<Option<u64>, NoMemory>
-    requires rules { AreRules rules.now tables.now }
-    requires right { IsRightFor (forms rules.now) tables.now }
+    requires rules { AreFormsOver rules.now tables.now }
+    requires right { IsRightOver (forms rules.now) tables.now }
     requires trace { IsTrace (forms rules.now) tables.now trace.old }
     requires within { IsWithin tables.now.target tables.now.degree (tree m.now) }
     ensures { IfOk result (λ o. Derives (forms rules.now) tables.now trace.old trace.new o (mono_less tables.now (tree m.now))) }
@@ -73,8 +72,8 @@ fn push_image(
     l: &Mono,
     r: &Mono,
 ) -> Result<(), NoMemory>
-    requires rules { AreRules rules.now tables.now }
-    requires right { IsRightFor (forms rules.now) tables.now }
+    requires rules { AreFormsOver rules.now tables.now }
+    requires right { IsRightOver (forms rules.now) tables.now }
     requires trace { IsTrace (forms rules.now) tables.now trace.old }
     requires residue { c < tables.now.p }
     requires within { IsWithin tables.now.target tables.now.degree (node (tree l.now) (tree r.now)) }
@@ -100,8 +99,8 @@ fn push_entries(
     right: &Row,
     r: &Mono,
 ) -> Result<(), NoMemory>
-    requires rules { AreRules rules.now tables.now }
-    requires right { IsRightFor (forms rules.now) tables.now }
+    requires rules { AreFormsOver rules.now tables.now }
+    requires right { IsRightOver (forms rules.now) tables.now }
     requires trace { IsTrace (forms rules.now) tables.now trace.old }
     requires within { IsWithin tables.now.target tables.now.degree (node (tree l.now) (tree r.now)) }
     requires left_value { IsValueRow (forms rules.now) tables.now (tree l.now) left.now }
@@ -127,8 +126,8 @@ fn push_row(
     right: &Row,
     r: &Mono,
 ) -> Result<(), NoMemory>
-    requires rules { AreRules rules.now tables.now }
-    requires right { IsRightFor (forms rules.now) tables.now }
+    requires rules { AreFormsOver rules.now tables.now }
+    requires right { IsRightOver (forms rules.now) tables.now }
     requires trace { IsTrace (forms rules.now) tables.now trace.old }
     requires residue { x < tables.now.p }
     requires value { IsValueRow (forms rules.now) tables.now (tree r.now) right.now }
@@ -153,8 +152,8 @@ pub(crate) fn product(
     b: u32,
     c: u32,
 ) -> Result<Option<u64>, NoMemory>
-    requires rules { AreRules rules.now tables.now }
-    requires right { IsRightFor (forms rules.now) tables.now }
+    requires rules { AreFormsOver rules.now tables.now }
+    requires right { IsRightOver (forms rules.now) tables.now }
     requires trace { IsTrace (forms rules.now) tables.now trace.old }
     requires product { IsProduct tables.now (b, c) }
     ensures { IfOk result (λ o. Derives (forms rules.now) tables.now trace.old trace.new o (product_less tables.now (b, c))) }
@@ -184,8 +183,8 @@ fn push_recipe(
     c: u32,
     found: &[(Residue, u32)],
 ) -> Result<(), NoMemory>
-    requires rules { AreRules rules.now tables.now }
-    requires right { IsRightFor (forms rules.now) tables.now }
+    requires rules { AreFormsOver rules.now tables.now }
+    requires right { IsRightOver (forms rules.now) tables.now }
     requires trace { IsTrace (forms rules.now) tables.now trace.old }
     requires product { IsProduct tables.now (b, c) }
     requires recipe { IsRecipeFor (forms rules.now) tables.now (b, c) found.now }
@@ -210,8 +209,8 @@ fn push_origin(
     t: &Multi,
     k: u32,
 ) -> Result<(), NoMemory>
-    requires rules { AreRules rules.now tables.now }
-    requires right { IsRightFor (forms rules.now) tables.now }
+    requires rules { AreFormsOver rules.now tables.now }
+    requires right { IsRightOver (forms rules.now) tables.now }
     requires trace { IsTrace (forms rules.now) tables.now trace.old }
     requires residue { c < tables.now.p }
     requires product { IsProductType tables.now t.now }
@@ -236,8 +235,8 @@ fn push_term(
     c: Residue,
     term: &Term,
 ) -> Result<(), NoMemory>
-    requires rules { AreRules rules.now tables.now }
-    requires right { IsRightFor (forms rules.now) tables.now }
+    requires rules { AreFormsOver rules.now tables.now }
+    requires right { IsRightOver (forms rules.now) tables.now }
     requires trace { IsTrace (forms rules.now) tables.now trace.old }
     requires residue { c < tables.now.p }
     requires coefficient { term.now.coef < tables.now.p }

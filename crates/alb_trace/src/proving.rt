@@ -2,9 +2,8 @@ ghost use Rattle.std.specs.Prelude.{◌≡◌, ◌<◌, All, IfOk, IsTrue, lengt
 ghost use Rattle.alb_mono.specs.Tree.{are_below};
 ghost use Rattle.alb_poly.specs.Poly.{AreResidues};
 ghost use Rattle.alb_poly.specs.Rules.{forms};
-ghost use Rattle.alb_block.specs.Asked.{AreRules};
 ghost use Rattle.alb_check.specs.Raw.{raw};
-ghost use Rattle.alb_table.specs.RightTable.{IsRightTable};
+ghost use Rattle.alb_table.specs.RightFor.{rules_view, AreRules, IsRightFor};
 ghost use Rattle.alb_query.specs.Answer.{IsAnswer, IsOver, NotZero};
 ghost use Rattle.alb_query.specs.Views.{answer_of};
 ghost use Rattle.alb_trace.specs.Proof.{Shows, IsCounterTable, shown, CanBePrinted};
@@ -38,8 +37,8 @@ fn counter_table(
     g: &Poly,
     f: &Poly,
 ) -> Result<RawTable, NoMemory>
-    requires rules { AreRules rules.now tables.now }
-    requires right { IsRightTable (forms rules.now) tables.now }
+    requires rules { AreRules (rules_view rules.now) }
+    requires right { IsRightFor (rules_view rules.now) tables.now }
     requires not_zero { IsAnswer tables.now.p (forms rules.now) tables.now.target tables.now.degree g.now (NotZero f.now) }
     requires known { All (λ t. IsTrue (are_below (length tables.now.target) t.1)) f.now }
     ensures { IfOk result (λ r. IsCounterTable (forms rules.now) tables.now g.now f.now (raw r)) }
@@ -61,8 +60,8 @@ pub fn prove(
     tables: &Tables,
     g: &Poly,
 ) -> Result<(Reply, Proof), NoMemory>
-    requires rules { AreRules rules.now tables.now }
-    requires right { IsRightTable (forms rules.now) tables.now }
+    requires rules { AreRules (rules_view rules.now) }
+    requires right { IsRightFor (rules_view rules.now) tables.now }
     requires residues { AreResidues tables.now.p g.now }
     requires known { All (λ t. IsTrue (are_below (length tables.now.target) t.1)) g.now }
     // The answer is that of the definition, and can be printed with the letters of the generators.

@@ -1,6 +1,7 @@
 use Rattle.std.proofs.Common.{rules, ◌≡◌, ℕ, ◌+◌, ◌-◌, ◌*◌, ◌%◌, ◌<◌, ◌≤◌, ◌∙◌, List, length, get_or, sum, take, None, ap, sym, subst, arith}
 use Rattle.std.specs.Prelude.{All}
 use Rattle.std.proofs.lemmas.List.{take_all, length-map}
+use Rattle.alb_poly.proofs.Multilinear.{all_from_each}
 use Rattle.alb_poly.specs.Normal.{normal}
 use Rattle.alb_deriv.specs.Derivation.{Line}
 use Rattle.gf_field.specs.Modular.{IsSameMod}
@@ -17,7 +18,6 @@ use Rattle.alb_poly.proofs.Consequence.{alike_poly}
 use Rattle.alb_rows.specs.Row.{Cells, comb}
 use Rattle.alb_deriv.specs.Short.{IsSumOf}
 use Rattle.alb_deriv.proofs.Appended.{sum-none}
-use Rattle.alb_block.proofs.ListLemmas.{all-each}
 use Rattle.alb_table.specs.Block.{spread}
 use Rattle.alb_table.specs.PartView.{type_at, origins_at}
 use Rattle.alb_table.specs.Right.{IsOfType, IsWithin}
@@ -299,7 +299,7 @@ push_origin-push_term-requires t c =
     let w : List ℕ = c.args.t.now in
     let types = instance-type (forms c.args.rules.now) c.args.tables.now c.requires.right w c.requires.product c.args.k c.requires.kept c.args.tables.now.p in
     let all : All (λ (s : ℕ × Tree). IsOfType w s.1) c.in_ok-value.value = subst (λ (f : List (ℕ × Tree)). All (λ (s : ℕ × Tree). IsOfType w s.1) f) (sym c.in_ok-value.ensures.value)
-    (all-each (λ (s : ℕ × Tree). IsOfType w s.1) _ types) in
+    (all_from_each (λ (s : ℕ × Tree). IsOfType w s.1) _ types) in
     let o = term-holds (λ (s : ℕ × Tree). IsOfType w s.1) c.terms-term-items.result.now c.in_ok-value.value c.loop-term.term-index c.term-item.result c.terms-term-items.ensures.value all c.loop-term-test.true c.term-item.is in
     let r = term-holds (λ (s : ℕ × Tree). s.0 < c.args.tables.now.p) c.terms-term-items.result.now c.in_ok-value.value c.loop-term.term-index c.term-item.result c.terms-term-items.ensures.value c.in_ok-value.ensures.residues c.loop-term-test.true c.term-item.is in
     let d : degree (tree c.term-item.result.mono) ≡ sum w = of_type-degree w (tree c.term-item.result.mono) o in

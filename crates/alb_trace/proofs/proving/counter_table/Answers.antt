@@ -8,7 +8,7 @@ use Rattle.alb_query.proofs.AnswerLemmas.{all-terms}
 use Rattle.alb_check.specs.Raw.{raw}
 use Rattle.alb_trace.specs.FirstType.{IsFirstAmong}
 use Rattle.alb_trace.specs.Proof.{IsCounterTable}
-use Rattle.alb_trace.proofs.Counter.{not-zero, first-counter, first-long-of, rules-multilinear}
+use Rattle.alb_trace.proofs.Counter.{not-zero, first-counter, first-long-of}
 use Rattle.alb_trace.proofs.proving.counter_table.Goals as goal
 
 pub first_type-requires-clause-known : goal.first_type-requires-clause-known
@@ -22,12 +22,11 @@ sub_table-requires c = first-long-of c.args.tables.now.target (length c.counts.r
 
 pub returns : goal.returns
 returns c =
-    let multi = rules-multilinear c.args.rules.now c.args.tables.now c.requires.rules in
     let e : length c.counts.result.now ≡ length c.args.tables.now.target = ap length (c.counts.ensures.value ∙ c.target.ensures.value) in
     let h : IsFirstAmong (length c.args.tables.now.target) c.args.f.now c.in-Some.top =
     subst (λ f. IsFirstAmong (length c.args.tables.now.target) f c.in-Some.top) c.terms.ensures.value
     (subst (λ n. IsFirstAmong n (terms c.terms.result.now) c.in-Some.top) e c.in-Some.ensures) in
-    let k = first-counter (forms c.args.rules.now) c.args.tables.now multi c.requires.rules.high c.degree.ensures.table c.requires.right c.args.g.now c.args.f.now
+    let k = first-counter (forms c.args.rules.now) c.args.tables.now c.requires.right.multilinear c.requires.right.high c.requires.right.table c.requires.right.right c.args.g.now c.args.f.now
     (not-zero (forms c.args.rules.now) c.args.tables.now c.args.g.now c.args.f.now c.requires.not_zero) c.in-Some.top h in
     IfOk-weaker c.sub_table.result _ (λ r. IsCounterTable (forms c.args.rules.now) c.args.tables.now c.args.g.now c.args.f.now (raw r))
     (λ r q. subst (IsCounterTable (forms c.args.rules.now) c.args.tables.now c.args.g.now c.args.f.now) (sym q) k) c.sub_table.ensures.table
