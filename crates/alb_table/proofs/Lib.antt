@@ -31,3 +31,4 @@ pub mod RightTables
 pub mod FirstRight
 pub mod RightForLemmas
 pub mod TableValues
+pub mod AcceptedRules
