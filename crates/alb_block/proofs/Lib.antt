@@ -4,7 +4,6 @@ pub mod OrderLemmas
 pub mod ColumnLemmas
 pub mod InstanceLemmas
 pub mod MeaningLemmas
-pub mod ExampleLemmas
 pub mod Vectors
 pub mod Reductions
 pub mod Existence

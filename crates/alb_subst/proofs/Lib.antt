@@ -8,4 +8,3 @@ pub mod ComeLemmas
 pub mod ProductLemmas
 pub mod SumLemmas
 pub mod InstanceLemmas
-pub mod ExampleLemmas

@@ -3,4 +3,3 @@ pub mod Ranges
 pub mod Products
 pub mod Columns
 pub mod Sums
-pub mod Example

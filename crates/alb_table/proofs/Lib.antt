@@ -9,8 +9,6 @@ pub mod KeptLemmas
 pub mod MonoLemmas
 pub mod ValueLemmas
 pub mod GeneratorLemmas
-pub mod ExampleLemmas
-pub mod ThreeLetters
 pub mod FindLemmas
 pub mod RiseLemmas
 pub mod Bases
@@ -33,3 +31,4 @@ pub mod RightTables
 pub mod FirstRight
 pub mod RightForLemmas
 pub mod TableValues
+pub mod AcceptedRules

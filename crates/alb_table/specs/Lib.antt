@@ -5,7 +5,6 @@ pub mod Table
 pub mod Value
 pub mod Stored
 pub mod Views
-pub mod Example
 pub mod Leading
 pub mod Right
 pub mod Block

@@ -1,0 +1,13 @@
+//! Tests of the crates of the algebra: linearized identities, problems, derivations, rows and their elimination.
+#![tactic(auto)]
+
+#[cfg(test)]
+mod derivations;
+#[cfg(test)]
+mod elimination;
+#[cfg(test)]
+mod identities;
+#[cfg(test)]
+mod problems;
+#[cfg(test)]
+mod rows;
