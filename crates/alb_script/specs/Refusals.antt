@@ -1,5 +1,5 @@
 -- The lines that refuse a line.
-use Rattle.std.specs.Prelude.{ℕ, Bool, true, false, List, [], ◌++◌, codes, decimal, IsTrue}
+use Rattle.std.specs.Prelude.{ℕ, Bool, true, false, List, [], ◌++◌, Option, None, Some, codes, decimal, IsTrue}
 use Rattle.alb_lex.specs.declared.error.LexError.{LexError}
 use Rattle.alb_lex.specs.declared.error.LexError.TheVariants as lex
 use Rattle.alb_mono.specs.Letters.{alphabet}
@@ -8,8 +8,10 @@ use Rattle.alb_mono.specs.Tree.{are_below}
 use Rattle.alb_print.specs.Text.{mono_text}
 use Rattle.alb_syntax.specs.declared.error.SyntaxError.{SyntaxError}
 use Rattle.alb_syntax.specs.declared.error.SyntaxError.TheVariants as syntax
+use Rattle.alb_linear.specs.Identity as linear
 use Rattle.alb_linear.specs.declared.error.IdentityError.{IdentityError}
 use Rattle.alb_linear.specs.declared.error.IdentityError.TheVariants as identity
+use Rattle.alb_problem.specs.Refusals as refusals
 use Rattle.alb_problem.specs.declared.error.ProblemError.{ProblemError}
 use Rattle.alb_problem.specs.declared.error.ProblemError.TheVariants as problem
 use Rattle.alb_script.specs.declared.error.CommandError.{CommandError}
@@ -43,30 +45,54 @@ command_text (command.Lex e) = lex_text e
 command_text (command.Syntax e) = syntax_text e
 command_text command.NoMemory = []
 
-abbrev pub identity_text : IdentityError → List ℕ
-identity_text identity.Zero = codes "refused 30\n"
-identity_text (identity.NotHomogeneous term) = line_of (codes "refused 31: ") (mono_text alphabet false (tree term))
-identity_text identity.DegreeOne = codes "refused 32\n"
-identity_text identity.DegreeOver8 = codes "refused 33\n"
-identity_text (identity.TooManyLinear count) = line_of (codes "refused 34: ") (decimal count)
-identity_text identity.NoMemory = []
+-- ---- refusals of the problem
 
-abbrev pub problem_text : ProblemError → List ℕ
-problem_text problem.NotInTable = codes "refused 1\n"
-problem_text problem.FieldAfterIdentity = codes "refused 40\n"
-problem_text (problem.BadGenerators place) = line_of (codes "refused 41 at ") (decimal place)
-problem_text problem.TooManyIdentities = codes "refused 42\n"
-problem_text (problem.Identity e) = identity_text e
-problem_text problem.NoGenerators = codes "refused 43\n"
-problem_text problem.FieldTooSmall = codes "refused 44\n"
-problem_text problem.GeneratorsTwice = codes "refused 45\n"
-problem_text problem.NoMemory = []
+abbrev pub fault_text : linear.Fault → List ℕ
+fault_text linear.Zero = codes "refused 30\n"
+fault_text (linear.NotHomogeneous m) = line_of (codes "refused 31: ") (mono_text alphabet false m)
+fault_text linear.DegreeOne = codes "refused 32\n"
+fault_text linear.DegreeOver8 = codes "refused 33\n"
+
+abbrev pub stated_text : refusals.Refusal → List ℕ
+stated_text refusals.NotInTable = codes "refused 1\n"
+stated_text refusals.FieldAfterIdentity = codes "refused 40\n"
+stated_text refusals.GeneratorsTwice = codes "refused 45\n"
+stated_text (refusals.BadGenerators place) = line_of (codes "refused 41 at ") (decimal place)
+stated_text refusals.TooManyIdentities = codes "refused 42\n"
+stated_text (refusals.NoIdentity fault) = fault_text fault
+stated_text (refusals.TooManyLinear n) = line_of (codes "refused 34: ") (decimal n)
+stated_text refusals.NoGenerators = codes "refused 43\n"
+stated_text refusals.FieldTooSmall = codes "refused 44\n"
+
+-- the refusal that an error of an identity, or of a problem, tells; want of memory tells none
+abbrev pub told_by_identity : IdentityError → Option refusals.Refusal
+told_by_identity identity.Zero = Some (refusals.NoIdentity linear.Zero)
+told_by_identity (identity.NotHomogeneous term) = Some (refusals.NoIdentity (linear.NotHomogeneous (tree term)))
+told_by_identity identity.DegreeOne = Some (refusals.NoIdentity linear.DegreeOne)
+told_by_identity identity.DegreeOver8 = Some (refusals.NoIdentity linear.DegreeOver8)
+told_by_identity (identity.TooManyLinear count) = Some (refusals.TooManyLinear count)
+told_by_identity identity.NoMemory = None
+
+abbrev pub told_by_problem : ProblemError → Option refusals.Refusal
+told_by_problem problem.NotInTable = Some refusals.NotInTable
+told_by_problem problem.FieldAfterIdentity = Some refusals.FieldAfterIdentity
+told_by_problem (problem.BadGenerators place) = Some (refusals.BadGenerators place)
+told_by_problem problem.TooManyIdentities = Some refusals.TooManyIdentities
+told_by_problem (problem.Identity e) = told_by_identity e
+told_by_problem problem.NoGenerators = Some refusals.NoGenerators
+told_by_problem problem.FieldTooSmall = Some refusals.FieldTooSmall
+told_by_problem problem.GeneratorsTwice = Some refusals.GeneratorsTwice
+told_by_problem problem.NoMemory = None
+
+abbrev pub or_nothing : Option refusals.Refusal → List ℕ
+or_nothing None = []
+or_nothing (Some r) = stated_text r
 
 -- the line of a refusal; want of memory has none
 abbrev pub refusal_text : Refusal → List ℕ
 refusal_text refusal.TooLong = codes "refused 84\n"
 refusal_text (refusal.Command e) = command_text e
-refusal_text (refusal.Problem e) = problem_text e
+refusal_text (refusal.Problem e) = or_nothing (told_by_problem e)
 
 -- ---- want of memory, by itself or inside another error
 

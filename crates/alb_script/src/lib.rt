@@ -14,4 +14,4 @@ pub use command::Command;
 pub use error::CommandError;
 pub use form::Form;
 pub use reading::read_command;
-pub use refusal::{Refusal, write_refusal};
+pub use refusal::{Refusal, write_numbered, write_refusal};

@@ -5,17 +5,16 @@ ghost use Rattle.alb_mono.specs.Mono.{tree};
 ghost use Rattle.alb_mono.specs.Tree.{are_below};
 ghost use Rattle.alb_mono.specs.Letters.{alphabet};
 ghost use Rattle.alb_print.specs.Text.{mono_text};
-ghost use Rattle.alb_script.specs.Refusals.{line_of, lex_text, syntax_text, command_text, identity_text, problem_text, refusal_text, is_lex_memory, is_syntax_memory, is_command_memory, is_identity_memory, is_problem_memory, is_memory, IsOverAlphabet, IsProblemOverAlphabet, IsIdentityOverAlphabet};
+ghost use Rattle.alb_script.specs.Refusals.{line_of, lex_text, syntax_text, command_text, told_by_identity, told_by_problem, or_nothing, refusal_text, is_lex_memory, is_syntax_memory, is_command_memory, is_identity_memory, is_problem_memory, is_memory, IsOverAlphabet, IsProblemOverAlphabet, IsIdentityOverAlphabet};
 
 use crate::error::CommandError;
 use alb_io::{Sink, WriteFault, put_all};
 use alb_lex::LexError;
 use alb_linear::IdentityError;
 use alb_mono::{Letters, Mono};
-use alb_print::write_mono;
+use alb_print::{write_count, write_mono};
 use alb_problem::ProblemError;
 use alb_syntax::SyntaxError;
-use itoa::Buffer;
 
 /// Why a line is refused.
 #[derive(Drop)]
@@ -28,23 +27,14 @@ pub enum Refusal {
     Problem(ProblemError),
 }
 
-fn write_number<K: Sink>(sink: &mut K, number: u64) -> Result<(), WriteFault>
-    ensures puts { Puts result (K.taken sink.old) (K.taken sink.new) (decimal number) }
-    ensures same_name { K.name sink.new ≡ K.name sink.old }
-    ensures cause { HasCause (K.faults sink.old) (K.faults sink.new) result }
-{
-    let mut buffer = Buffer::new();
-    put_all(sink, buffer.format(number).as_bytes())
-}
-
-// Writes a line that ends with a number.
-fn write_numbered<K: Sink>(sink: &mut K, front: &[u8], number: u64) -> Result<(), WriteFault>
+/// Writes a line of a text and a number that is not negative, in decimal.
+pub fn write_numbered<K: Sink>(sink: &mut K, front: &[u8], number: u64) -> Result<(), WriteFault>
     ensures puts { Puts result (K.taken sink.old) (K.taken sink.new) (line_of front.now (decimal number)) }
     ensures same_name { K.name sink.new ≡ K.name sink.old }
     ensures cause { HasCause (K.faults sink.old) (K.faults sink.new) result }
 {
     put_all(sink, front)?;
-    write_number(sink, number)?;
+    write_count(sink, number)?;
     put_all(sink, b"\n")
 }
 
@@ -136,7 +126,7 @@ fn write_command<K: Sink>(sink: &mut K, error: &CommandError) -> Result<(), Writ
 fn write_identity<K: Sink>(sink: &mut K, error: &IdentityError) -> Result<(), WriteFault>
     requires memory { is_identity_memory error.now ≡ false }
     requires known { IsIdentityOverAlphabet error.now }
-    ensures puts { Puts result (K.taken sink.old) (K.taken sink.new) (identity_text error.now) }
+    ensures puts { Puts result (K.taken sink.old) (K.taken sink.new) (or_nothing (told_by_identity error.now)) }
     ensures same_name { K.name sink.new ≡ K.name sink.old }
     ensures cause { HasCause (K.faults sink.old) (K.faults sink.new) result }
 {
@@ -153,7 +143,7 @@ fn write_identity<K: Sink>(sink: &mut K, error: &IdentityError) -> Result<(), Wr
 fn write_problem<K: Sink>(sink: &mut K, error: &ProblemError) -> Result<(), WriteFault>
     requires memory { is_problem_memory error.now ≡ false }
     requires known { IsProblemOverAlphabet error.now }
-    ensures puts { Puts result (K.taken sink.old) (K.taken sink.new) (problem_text error.now) }
+    ensures puts { Puts result (K.taken sink.old) (K.taken sink.new) (or_nothing (told_by_problem error.now)) }
     ensures same_name { K.name sink.new ≡ K.name sink.old }
     ensures cause { HasCause (K.faults sink.old) (K.faults sink.new) result }
 {

@@ -1,5 +1,5 @@
 -- How a run goes on, and how it ends.
-use Rattle.std.proofs.Common.{◌≡◌, ◌≢◌, ℕ, ◌+◌, ◌^◌, Bool, true, false, List, [], ◌∷◌, ◌++◌, length, Option, refl, sym, ap, ◌∙◌, subst, inl, inr, append_assoc, arith}
+use Rattle.std.proofs.Common.{◌≡◌, ◌≢◌, ◌⊎◌, ℕ, ◌+◌, ◌<◌, ◌≤◌, ◌^◌, Bool, true, false, List, [], ◌∷◌, ◌++◌, length, Option, None, Some, refl, sym, ap, ◌∙◌, subst, inl, inr, append_assoc, arith}
 use Rattle.std.specs.Io.KnownBytes.{Appends}
 use Rattle.std.proofs.KnownBytes.{Consumes-nil, Appends-nil, Appends-trans}
 use Rattle.std.proofs.lemmas.List.{append-nil, length-append}
@@ -10,16 +10,16 @@ use Rattle.alb_io.specs.Reading.{Reading, IsAll}
 use Rattle.alb_io.specs.declared.status.Status.{Status}
 use Rattle.alb_io.specs.declared.status.Status.TheVariants as status
 use Rattle.alb_io.specs.declared.step.LineStep.TheVariants as step
-use Rattle.alb_io.proofs.Readings.{Reading-start, Reading-first, Reading-end, Reading-cut, Reading-lines}
+use Rattle.alb_io.proofs.Readings.{Reading-start, Reading-first, Reading-end, Reading-cut, Reading-lines, Reading-takes, HasRead-lines}
 use Rattle.alb_evidence.specs.Reads.{ReadsLines}
 use Rattle.alb_script.specs.declared.form.Form.{Form}
 use Rattle.alb_top.specs.Runs.{Run}
 use Rattle.alb_top.specs.Script.{State, Reply, start, Step, EndsBlock, AnswersEnd, text_of}
 use Rattle.alb_top.specs.Sound.{IsSound}
-use Rattle.alb_top.specs.Outcome.{IsTranscript, IsFront, IsRead, Writes, status_of}
+use Rattle.alb_top.specs.Outcome.{IsTranscript, IsFront, IsRead, Writes, AnswersUpTo, input_of, status_of}
 use Rattle.alb_top.specs.Going.{Going, AnswersLines, EndsLines, Stops, Gets, Outcome, IsIdle}
 use Rattle.alb_top.proofs.SoundLemmas.{sound-start, finish-some}
-use Rattle.alb_top.proofs.RunLemmas.{Run-sound, Run-join, Run-some, Run-closed, Finish-closed}
+use Rattle.alb_top.proofs.RunLemmas.{Run-sound, Run-join, Run-one, Run-some, Run-closed, Finish-closed}
 
 pub Going-start : (form : Form) (reader : Reader) (first before : Option (List ℕ)) → reader.held ≡ [] → reader.at_end ≡ false → reader.room ≡ 2 ^ 40 → Going form reader (start form) first first before before
 Going-start form reader first before none running room = record {
@@ -61,6 +61,50 @@ reads-on taken lines (line ∷ more) old new first now now' p r =
       room = omega (arith, r.2.reads.room, rest.room, length-append r.2.reads.got rest.got);
     }
 
+-- ---- the input, as far as it is known
+
+either_end : (b : Bool) → (b ≡ true) ⊎ (b ≡ false)
+either_end true = inl refl
+either_end false = inr refl
+
+lines-taken : (taken : List ℕ) (lines : List (List ℕ)) (reader : Reader) (first now : Option (List ℕ)) → Reading taken lines reader first now → (more : List (List ℕ)) × (lines_of taken ≡ lines ++ more)
+lines-taken taken lines reader first now p = elim (either_end reader.at_end) [
+  | inl end ↦ (lines_of reader.held, (p.at_end end).0)
+  | inr running ↦ (lines_of (reader.held ++ []), ap lines_of (sym (append-nil taken)) ∙ HasRead-lines taken lines reader.held [] (p.so_far running))
+]
+
+-- its lines begin with those that were read
+lines-input : (taken : List ℕ) (lines : List (List ℕ)) (reader : Reader) (first now : Option (List ℕ)) → Reading taken lines reader first now
+    → (more : List (List ℕ)) × (lines_of (input_of first taken) ≡ lines ++ more)
+lines-input taken lines reader None now p = lines-taken taken lines reader None now p
+lines-input taken lines reader (Some input) now p = Reading-lines taken lines reader (Some input) now input p refl
+
+-- all of it was taken
+input-all : (first : Option (List ℕ)) (taken : List ℕ) → IsAll first taken → input_of first taken ≡ taken
+input-all None taken all = refl
+input-all (Some input) taken all = all
+
+-- the lines are answered
+up_to-run : (old new : State) (lines : List (List ℕ)) (text : List ℕ) → AnswersUpTo old lines text new → Run Step old lines text new
+up_to-run old new lines text a =
+    subst (λ l. Run Step old l text new) (sym a.lines_are) (subst (λ t. Run Step old (a.before ++ a.line ∷ []) t new) (sym a.text_is)
+    (Run-join Step old a.mid new a.before (a.line ∷ []) a.body a.end a.run (Run-one Step a.mid new a.line a.end a.step)))
+
+-- lines before, which are answered
+up_to-join : (old mid new : State) (xs ys : List (List ℕ)) (t u : List ℕ) → Run Step old xs t mid → AnswersUpTo mid ys u new → AnswersUpTo old (xs ++ ys) (t ++ u) new
+up_to-join old mid new xs ys t u run a = record {
+  before = xs ++ a.before;
+  line = a.line;
+  body = t ++ a.body;
+  end = a.end;
+  mid = a.mid;
+  lines_are = ap (λ l. xs ++ l) a.lines_are ∙ sym (append_assoc xs a.before (a.line ∷ []));
+  text_is = ap (λ l. t ++ l) a.text_is ∙ sym (append_assoc t a.body a.end);
+  run = Run-join Step old mid a.mid xs a.before t a.body run a.run;
+  runs = a.runs;
+  step = a.step;
+}
+
 -- lines were read and answered
 pub Going-lines : (form : Form) (old new : Reader) (script next : State) (first now now' before after after' : Option (List ℕ)) (reply : Reply)
     → Going form old script first now before after → AnswersLines old new script next now now' reply → Appends after after' (text_of reply)
@@ -73,7 +117,7 @@ Going-lines form old new script next first now now' before after after' reply p 
       text = p.text ++ text_of reply;
       reading = on.reading;
       written = Appends-trans before after after' p.text (text_of reply) p.written put;
-      run = Run-join Step (start form) script next p.lines a.lines p.text (text_of reply) p.run a.run;
+      run = Run-join Step (start form) script next p.lines a.lines p.text (text_of reply) p.run (up_to-run script next a.lines (text_of reply) a.answers);
       room = omega (arith, p.room, on.room, length-append p.taken on.got);
     }
 
@@ -131,10 +175,10 @@ ended_transcript form input taken lines text script next reply all is run going 
   judged = refl;
 }
 
-ended_writes : (form : Form) (input taken : List ℕ) (lines : List (List ℕ)) (text : List ℕ) (script next : State) (reply : Reply) → input ≡ taken → lines_of taken ≡ lines → Run Step (start form) lines text script
-    → script.closed ≡ false → EndsBlock script.block script false reply next → Writes form (status_of next.clean) input taken (text ++ text_of reply)
-ended_writes form input taken lines text script next reply all is run going ends =
-    writes_status form next.clean input taken _ (ended_transcript form input taken lines text script next reply all is run going ends) (inl all)
+ended_writes : (form : Form) (input taken : List ℕ) (lines : List (List ℕ)) (text : List ℕ) (script next : State) (reply : Reply) → input ≡ taken → length taken < 2 ^ 40 → lines_of taken ≡ lines
+    → Run Step (start form) lines text script → script.closed ≡ false → EndsBlock script.block script false reply next → Writes form (status_of next.clean) input taken (text ++ text_of reply)
+ended_writes form input taken lines text script next reply all few is run going ends =
+    writes_status form next.clean input taken _ (ended_transcript form input taken lines text script next reply all is run going ends) (inl (all, few))
 
 front_of_end : (form : Form) (input taken : List ℕ) (lines : List (List ℕ)) (text front rest : List ℕ) (script next : State) (reply : Reply) → input ≡ taken → lines_of taken ≡ lines → Run Step (start form) lines text script
     → script.closed ≡ false → EndsBlock script.block script false reply next → text_of reply ≡ front ++ rest → IsFront form input (text ++ front)
@@ -144,23 +188,32 @@ front_of_end form input taken lines text front rest script next reply all is run
   transcript = subst (λ l. IsTranscript form input l next.clean) (ap (λ l. text ++ l) cut ∙ sym (append_assoc text front rest)) (ended_transcript form input taken lines text script next reply all is run going ends);
 }
 
-closed_writes : (form : Form) (input : List ℕ) (lines more : List (List ℕ)) (text : List ℕ) (script : State) → lines_of input ≡ lines ++ more → Run Step (start form) lines text script → script.closed ≡ true
-    → (taken : List ℕ) → Writes form (status_of script.clean) input taken text
-closed_writes form input lines more text script is run closed taken =
-    writes_status form script.clean input taken text (record {
-      last = script;
-      answers = (
-        text ++ [],
-        [],
-        script,
-        sym (append-nil (text ++ []) ∙ append-nil text),
-        subst (λ l. Run Step (start form) l (text ++ []) script) (sym is) (Run-join Step (start form) script script lines more text [] run (Run-closed script more closed)),
-        Finish-closed script closed,
-      );
-      judged = refl;
-    }) (inr (record { lines = lines; more = more; last = script; cut = is; run = run; closed = closed }))
+closed_transcript : (form : Form) (input : List ℕ) (lines more : List (List ℕ)) (text : List ℕ) (script : State) → lines_of input ≡ lines ++ more → Run Step (start form) lines text script → script.closed ≡ true
+    → IsTranscript form input text script.clean
+closed_transcript form input lines more text script is run closed = record {
+  last = script;
+  answers = (
+    text ++ [],
+    [],
+    script,
+    sym (append-nil (text ++ []) ∙ append-nil text),
+    subst (λ l. Run Step (start form) l (text ++ []) script) (sym is) (Run-join Step (start form) script script lines more text [] run (Run-closed script more closed)),
+    Finish-closed script closed,
+  );
+  judged = refl;
+}
 
 -- ---- outcomes
+
+-- no more was taken than may be
+within : (room taken : ℕ) → room + taken ≡ 2 ^ 40 → taken ≤ 2 ^ 40
+within room taken e = omega arith
+
+below : (room taken : ℕ) → room + taken ≡ 2 ^ 40 → 0 < room → taken < 2 ^ 40
+below room taken e some = omega arith
+
+all_room : (room got before taken : ℕ) (a b : List ℕ) → length a ≡ taken → length b ≡ got → room + got ≡ before → before + taken ≡ 2 ^ 40 → room + length (a ++ b) ≡ 2 ^ 40
+all_room room got before taken a b x y e f = omega (arith, length-append a b, x, y, e, f)
 
 -- the input ended
 pub Outcome-end : (form : Form) (old new : Reader) (script next : State) (first now now' before after after' : Option (List ℕ)) (reply : Reply)
@@ -170,12 +223,15 @@ Outcome-end form old new script next first now now' before after after' reply p 
     let q = going-quietly form old a.pauses.last script a.mid first now a.pauses.between before after a.pauses.lines p a.pauses.inside a.pauses.run in
     let r = a.pauses.breaks in
     let end = Reading-end q.taken q.lines a.pauses.last new first a.pauses.between now' q.reading r in
+    let room = all_room new.room (length r.got) a.pauses.last.room (length q.taken) q.taken r.got refl refl r.room q.room in
     record {
       taken = q.taken ++ r.got;
       text = q.text ++ text_of reply;
       consumed = end.0;
       written = Appends-trans before after after' q.text (text_of reply) q.written put;
-      writes = λ input told. ended_writes form input (q.taken ++ r.got) q.lines q.text a.mid next reply (subst (λ o. IsAll o (q.taken ++ r.got)) told end.2) end.1 q.run a.pauses.runs a.ends;
+      limit = within new.room (length (q.taken ++ r.got)) room;
+      writes = ended_writes form (input_of first (q.taken ++ r.got)) (q.taken ++ r.got) q.lines q.text a.mid next reply (input-all first (q.taken ++ r.got) end.2) (below new.room (length (q.taken ++ r.got)) room (r.drained r.gives.3).1)
+          end.1 q.run a.pauses.runs a.ends;
     }
 
 pub Outcome-end_fault : (form : Form) (old new : Reader) (script next : State) (first now now' before after after' : Option (List ℕ)) (reply : Reply)
@@ -190,21 +246,37 @@ Outcome-end_fault form old new script next first now now' before after after' re
       text = q.text ++ put.front;
       consumed = end.0;
       written = Appends-trans before after after' q.text put.front q.written put.taken;
-      writes = λ input told. front_of_end form input (q.taken ++ r.got) q.lines q.text put.front put.rest a.mid next reply (subst (λ o. IsAll o (q.taken ++ r.got)) told end.2) end.1 q.run a.pauses.runs a.ends put.whole;
+      limit = within new.room (length (q.taken ++ r.got)) (all_room new.room (length r.got) a.pauses.last.room (length q.taken) q.taken r.got refl refl r.room q.room);
+      writes = front_of_end form (input_of first (q.taken ++ r.got)) (q.taken ++ r.got) q.lines q.text put.front put.rest a.mid next reply (input-all first (q.taken ++ r.got) end.2) end.1 q.run a.pauses.runs a.ends put.whole;
     }
 
--- the script ended
-pub Outcome-closed : (form : Form) (reader : Reader) (script : State) (first now before after : Option (List ℕ)) → Going form reader script first now before after → script.closed ≡ true
-    → Outcome form (status_of script.clean) first now before after
-Outcome-closed form reader script first now before after p closed = record {
-  taken = p.taken;
-  text = p.text;
-  consumed = p.reading.consumed;
-  written = p.written;
-  writes = λ input told.
-      let more = Reading-lines p.taken p.lines reader first now input p.reading told in
-      closed_writes form input p.lines more.0 p.text script more.1 p.run closed p.taken;
-}
+-- the script ended with a line
+pub Outcome-closed : (form : Form) (old new : Reader) (script next : State) (first now now' before after after' : Option (List ℕ)) (reply : Reply)
+    → Going form old script first now before after → AnswersLines old new script next now now' reply → Appends after after' (text_of reply) → next.closed ≡ true
+    → Outcome form (status_of next.clean) first now' before after'
+Outcome-closed form old new script next first now now' before after after' reply p a put closed =
+    let on = reads-on p.taken p.lines a.lines old new first now now' p.reading a.reads in
+    let more = lines-input (p.taken ++ on.got) (p.lines ++ a.lines) new first now' on.reading in
+    let answers = up_to-join (start form) script next p.lines a.lines p.text (text_of reply) p.run a.answers in
+    record {
+      taken = p.taken ++ on.got;
+      text = p.text ++ text_of reply;
+      consumed = on.reading.consumed;
+      written = Appends-trans before after after' p.text (text_of reply) p.written put;
+      limit = within new.room (length (p.taken ++ on.got)) (all_room new.room (length on.got) old.room (length p.taken) p.taken on.got refl refl on.room p.room);
+      writes = writes_status form next.clean (input_of first (p.taken ++ on.got)) (p.taken ++ on.got) (p.text ++ text_of reply)
+          (closed_transcript form (input_of first (p.taken ++ on.got)) (p.lines ++ a.lines) more.0 (p.text ++ text_of reply) next more.1
+          (Run-join Step (start form) script next p.lines a.lines p.text (text_of reply) p.run (up_to-run script next a.lines (text_of reply) a.answers)) closed)
+          (inr (record {
+            lines = p.lines ++ a.lines;
+            more = more.0;
+            last = next;
+            cut = more.1;
+            takes = Reading-takes (p.taken ++ on.got) (p.lines ++ a.lines) new first now' on.reading;
+            answers = answers;
+            closed = closed;
+          }));
+    }
 
 -- the source failed
 pub Outcome-read_fault : (form : Form) (old new : Reader) (script : State) (first now now' before after : Option (List ℕ)) → Going form old script first now before after → Stops step.ReadFault old new script now now'
@@ -219,7 +291,8 @@ Outcome-read_fault form old new script first now now' before after p s =
       text = q.text;
       consumed = cut.0;
       written = q.written;
-      writes = λ input told. record { last = s.0; run = subst (λ l. Run Step (start form) l q.text s.0) (sym cut.1) q.run; runs = a.runs };
+      limit = within new.room (length (q.taken ++ r.got)) (all_room new.room (length r.got) a.last.room (length q.taken) q.taken r.got refl refl r.room q.room);
+      writes = record { last = s.0; run = subst (λ l. Run Step (start form) l q.text s.0) (sym cut.1) q.run; runs = a.runs };
     }
 
 pub Outcome-limit : (form : Form) (old new : Reader) (script : State) (first now now' before after : Option (List ℕ)) → Going form old script first now before after → Stops step.InputLimit old new script now now'
@@ -229,14 +302,16 @@ Outcome-limit form old new script first now now' before after p s =
     let q = going-quietly form old a.last script s.0 first now a.between before after a.lines p a.inside a.run in
     let r = a.breaks in
     let cut = Reading-cut q.taken q.lines a.last new first a.between now' step.InputLimit q.reading r r.gives.0 r.gives.2 in
+    let room = all_room new.room (length r.got) a.last.room (length q.taken) q.taken r.got refl refl r.room q.room in
     record {
       taken = q.taken ++ r.got;
       text = q.text;
       consumed = cut.0;
       written = q.written;
-      writes = λ input told. (
+      limit = within new.room (length (q.taken ++ r.got)) room;
+      writes = (
         record { last = s.0; run = subst (λ l. Run Step (start form) l q.text s.0) (sym cut.1) q.run; runs = a.runs },
-        omega (arith, q.room, r.room, r.gives.3, length-append q.taken r.got),
+        omega (arith, room, r.gives.3),
       );
     }
 
@@ -246,14 +321,15 @@ pub Outcome-write_fault : (form : Form) (old new : Reader) (script next : State)
     → Outcome form status.WriteFault first now' before after'
 Outcome-write_fault form old new script next first now now' before after after' reply p a put =
     let on = reads-on p.taken p.lines a.lines old new first now now' p.reading a.reads in
+    let more = lines-input (p.taken ++ on.got) (p.lines ++ a.lines) new first now' on.reading in
     record {
       taken = p.taken ++ on.got;
       text = p.text ++ put.front;
       consumed = on.reading.consumed;
       written = Appends-trans before after after' p.text put.front p.written put.taken;
-      writes = λ input told.
-          let more = Reading-lines (p.taken ++ on.got) (p.lines ++ a.lines) new first now' input on.reading told in
-          front_of form input (p.lines ++ a.lines) more.0 (p.text ++ text_of reply) (p.text ++ put.front) put.rest next more.1 (Run-join Step (start form) script next p.lines a.lines p.text (text_of reply) p.run a.run)
+      limit = within new.room (length (p.taken ++ on.got)) (all_room new.room (length on.got) old.room (length p.taken) p.taken on.got refl refl on.room p.room);
+      writes = front_of form (input_of first (p.taken ++ on.got)) (p.lines ++ a.lines) more.0 (p.text ++ text_of reply) (p.text ++ put.front) put.rest next more.1
+          (Run-join Step (start form) script next p.lines a.lines p.text (text_of reply) p.run (up_to-run script next a.lines (text_of reply) a.answers))
           (ap (λ l. p.text ++ l) put.whole ∙ sym (append_assoc p.text put.front put.rest));
     }
 
@@ -262,14 +338,14 @@ pub Outcome-no_memory : (form : Form) (old new : Reader) (script : State) (first
     → Going form old script first now before after → Gets old new now now' → Outcome form status.NoMemory first now' before after
 Outcome-no_memory form old new script first now now' before after p g =
     let on = reads-on p.taken p.lines g.lines old new first now now' p.reading g.reads in
+    let more = lines-input (p.taken ++ on.got) (p.lines ++ g.lines) new first now' on.reading in
     record {
       taken = p.taken ++ on.got;
       text = p.text;
       consumed = on.reading.consumed;
       written = p.written;
-      writes = λ input told.
-          let more = Reading-lines (p.taken ++ on.got) (p.lines ++ g.lines) new first now' input on.reading told in
-          front_of form input p.lines (g.lines ++ more.0) p.text p.text [] script (more.1 ∙ append_assoc p.lines g.lines more.0) p.run (sym (append-nil p.text));
+      limit = within new.room (length (p.taken ++ on.got)) (all_room new.room (length on.got) old.room (length p.taken) p.taken on.got refl refl on.room p.room);
+      writes = front_of form (input_of first (p.taken ++ on.got)) p.lines (g.lines ++ more.0) p.text p.text [] script (more.1 ∙ append_assoc p.lines g.lines more.0) p.run (sym (append-nil p.text));
     }
 
 -- nothing was read or written
@@ -279,7 +355,8 @@ Outcome-nothing form first before = record {
   text = [];
   consumed = Consumes-nil first;
   written = Appends-nil before;
-  writes = λ input told. front_of form input [] (lines_of input) [] [] [] (start form) refl (refl, refl) refl;
+  limit = omega arith;
+  writes = front_of form (input_of first []) [] (lines_of (input_of first [])) [] [] [] (start form) refl (refl, refl) refl;
 }
 
 pub idle : (first before : Option (List ℕ)) → IsIdle first first before before

@@ -12,3 +12,5 @@ pub mod AsksLemmas
 pub mod Going
 pub mod WriteLemmas
 pub mod EvidenceLemmas
+pub mod UniqueCheck
+pub mod UniqueBatch

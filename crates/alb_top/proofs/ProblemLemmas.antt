@@ -2,17 +2,20 @@
 use Rattle.std.proofs.Common.{◌≡◌, ◌≢◌, ℕ, ◌+◌, ◌<◌, ◌≤◌, Bool, true, false, List, [], ◌∷◌, ◌++◌, length, map, sum, All, Option, Some, None, refl, sym, ap, ◌∙◌, subst, append_assoc, arith}
 use Rattle.std.specs.Prelude.{if◌then◌else◌, IsTrue, nat_lt, nat_le, ◌==◌}
 use Rattle.std.proofs.lemmas.Bool.Decides.{nat_tests}
-use Rattle.std.proofs.lemmas.List.{append-nil}
+use Rattle.std.specs.List.{flat_map}
+use Rattle.std.proofs.lemmas.List.{append-nil, length-append}
+use Rattle.std.proofs.lemmas.List.Concat.{flat_map-append}
 use Rattle.std.proofs.lemmas.List.Elements.{All-append, All-cons, All-nil}
 use Rattle.alb_lex.specs.declared.token.Token.{Token}
 use Rattle.alb_lex.specs.declared.token.TokenKind.{TokenKind}
 use Rattle.alb_lex.specs.declared.token.TokenKind.TheVariants as kinds
 use Rattle.gf_field.specs.Primes.{IsInTable, is_in_table}
 use Rattle.gf_field.proofs.Table.{IsPrime-from_table}
+use Rattle.alb_mono.specs.Letters.{AreLetters}
 use Rattle.alb_mono.specs.Listing.{Each}
-use Rattle.alb_mono.specs.Tree.{Tree, are_below}
-use Rattle.alb_poly.specs.Poly.{Poly, AreResidues}
-use Rattle.alb_poly.specs.Normal.{normal}
+use Rattle.alb_mono.specs.Tree.{Tree}
+use Rattle.alb_mono.proofs.LetterLemmas.{AreLetters-from_different}
+use Rattle.alb_poly.specs.Poly.{Poly}
 use Rattle.alb_poly.specs.Instance.{Form, linearization, IsMultilinear}
 use Rattle.alb_poly.specs.Identity.{IsHomogeneous, AreHomogeneous, linearizations, polynomials, AreSameForms}
 use Rattle.alb_poly.specs.Consequence.{IsConsequence, AreMultilinear}
@@ -23,11 +26,11 @@ use Rattle.alb_linear.specs.Identity as identity
 use Rattle.alb_linear.specs.Identity.{leading_type, identity_fault, type_fault, degree_fault, other_term, linear_count, Fault, IsLinearized}
 use Rattle.alb_linear.proofs.LinearLemmas.{IsFit, identity-fits, degree-pos}
 use Rattle.alb_problem.specs.Builder.{Builder, linear_form, with_degrees}
-use Rattle.alb_problem.specs.Generators.{letters, counts, count_of, fits, are_whole, fault_from, generators_fault, AreGenerators}
+use Rattle.alb_problem.specs.Generators.{letters, counts, letter_of, count_of, fits, are_whole, fault_from, generators_fault, AreBegun, AreGenerators}
 use Rattle.alb_problem.specs.Refusals as refusals
 use Rattle.alb_problem.specs.Refusals.{field_refusal, bad_generators, generators_refusal, identity_refusal, fault_refusal, finish_refusal}
 use Rattle.alb_problem.proofs.BuilderLemmas.{homogeneous-no_fault}
-use Rattle.alb_problem.proofs.GeneratorLemmas.{fits-count}
+use Rattle.alb_problem.proofs.GeneratorLemmas.{fits-count, begun-letter}
 use Rattle.alb_problem.proofs.AllVectors.{degree-type}
 use Rattle.alb_problem.proofs.LawLemmas.{consequences-text}
 use Rattle.alb_table.specs.Table.{IsTarget}
@@ -52,65 +55,84 @@ from-whole false end h = absurd (cc)
 whole-named : (ls ns : List ℕ) → are_whole ls ns ≡ true → length ls ≡ length ns
 whole-named ls ns h = grind (arith, nat_tests, h)
 
--- counts from 1 on, of which there are at most 12
-record AreLow (ns : List ℕ) : Type 0 where
-  positive : All (λ n. 0 < n) ns
-  low : sum ns ≤ 12
-
 sum-push : (ns : List ℕ) (n : ℕ) → sum (ns ++ n ∷ []) ≡ sum ns + n
 sum-push [] n = omega (arith, sum_cons n [])
 sum-push (m ∷ ns) n = omega (arith, sum_cons m ns, sum_cons m (ns ++ n ∷ []), sum-push ns n)
 
-low-more : (ns : List ℕ) (n : ℕ) → AreLow ns → 0 < n → sum ns + n ≤ 12 → AreLow (ns ++ n ∷ [])
-low-more ns n h pos small = record {
-  positive = All-append (λ m. 0 < m) ns (n ∷ []) h.positive (All-cons (λ m. 0 < m) n [] pos (All-nil _));
-  low = omega (arith, small, sum-push ns n);
-}
+begun-count : (ls ns : List ℕ) (n : ℕ) → AreBegun ls ns → fits ls ns (kinds.Number n) ≡ true → AreBegun ls (ns ++ n ∷ [])
+begun-count ls ns n a h =
+    let f = fits-count ls ns n h in
+    record {
+      known = a.known;
+      different = a.different;
+      positive = All-append (λ m. 0 < m) ns (n ∷ []) a.positive (All-cons (λ m. 0 < m) n [] f.positive (All-nil _));
+      low = omega (arith, f.low, sum-push ns n);
+      within = omega (arith, a.within, length-append ns (n ∷ []));
+    }
 
-low-token : (ls ns : List ℕ) (k : TokenKind) → fits ls ns k ≡ true → AreLow ns → AreLow (ns ++ count_of k)
-low-token ls ns (kinds.Number n) h a = let f = fits-count ls ns n h in low-more ns n a f.positive f.low
-low-token ls ns (kinds.Letter c) h a = subst AreLow (sym (append-nil ns)) a
-low-token ls ns kinds.Plus h a = absurd (cc)
-low-token ls ns kinds.Minus h a = absurd (cc)
-low-token ls ns kinds.Star h a = absurd (cc)
-low-token ls ns kinds.Caret h a = absurd (cc)
-low-token ls ns kinds.Comma h a = absurd (cc)
-low-token ls ns kinds.Open h a = absurd (cc)
-low-token ls ns kinds.Close h a = absurd (cc)
-low-token ls ns kinds.SquareOpen h a = absurd (cc)
-low-token ls ns kinds.SquareClose h a = absurd (cc)
+begun-token : (ls ns : List ℕ) (k : TokenKind) → fits ls ns k ≡ true → AreBegun ls ns → AreBegun (ls ++ letter_of k) (ns ++ count_of k)
+begun-token ls ns (kinds.Number n) h a = subst (λ l. AreBegun l (ns ++ n ∷ [])) (sym (append-nil ls)) (begun-count ls ns n a h)
+begun-token ls ns (kinds.Letter c) h a = subst (AreBegun (ls ++ c ∷ [])) (sym (append-nil ns)) (begun-letter ls ns c a h)
+begun-token ls ns kinds.Plus h a = absurd (cc)
+begun-token ls ns kinds.Minus h a = absurd (cc)
+begun-token ls ns kinds.Star h a = absurd (cc)
+begun-token ls ns kinds.Caret h a = absurd (cc)
+begun-token ls ns kinds.Comma h a = absurd (cc)
+begun-token ls ns kinds.Open h a = absurd (cc)
+begun-token ls ns kinds.Close h a = absurd (cc)
+begun-token ls ns kinds.SquareOpen h a = absurd (cc)
+begun-token ls ns kinds.SquareClose h a = absurd (cc)
 
-counts-more : (ts : List Token) (t : Token) → counts (ts ++ t ∷ []) ≡ counts ts ++ count_of t.kind
-counts-more [] t = append-nil (count_of t.kind)
-counts-more (u ∷ ts) t = ap (λ l. count_of u.kind ++ l) (counts-more ts t) ∙ sym (append_assoc (count_of u.kind) (counts ts) (count_of t.kind))
+flat-one : (g : Token → List ℕ) (ts : List Token) (t : Token) → flat_map g (ts ++ t ∷ []) ≡ flat_map g ts ++ g t
+flat-one g ts t = flat_map-append g ts (t ∷ []) ∙ ap (λ l. flat_map g ts ++ l) (append-nil (g t))
 
 fits-both : (b : Bool) (o : Option ℕ) (place : ℕ) → (if b then o else Some place) ≡ None → (b ≡ true) × (o ≡ None)
 fits-both true o place h = (refl, h)
 fits-both false o place h = absurd (cc)
 
-fault-sound : (before ts : List Token) (end : ℕ) → AreLow (counts before) → fault_from before ts end ≡ None → AreGenerators (letters (before ++ ts)) (counts (before ++ ts))
+-- different letters, each with its count
+record AreNamed (ls ns : List ℕ) : Type 0 where
+  generators : AreGenerators ls ns
+  letters : AreLetters ls
+
+fault-sound : (before ts : List Token) (end : ℕ) → AreBegun (letters before) (counts before) → fault_from before ts end ≡ None → AreNamed (letters (before ++ ts)) (counts (before ++ ts))
 fault-sound before [] end a h =
-    subst (λ xs. AreGenerators (letters xs) (counts xs)) (sym (append-nil before)) (record {
-      named = whole-named (letters before) (counts before) (from-whole (are_whole (letters before) (counts before)) end h);
-      positive = a.positive;
-      low = a.low;
+    subst (λ xs. AreNamed (letters xs) (counts xs)) (sym (append-nil before)) (record {
+      generators = record { named = whole-named (letters before) (counts before) (from-whole (are_whole (letters before) (counts before)) end h); positive = a.positive; low = a.low };
+      letters = AreLetters-from_different (letters before) a.known a.different;
     })
 fault-sound before (t ∷ ts) end a h =
     let k = fits-both (fits (letters before) (counts before) t.kind) (fault_from (before ++ t ∷ []) ts end) t.from h in
-    let l : AreLow (counts (before ++ t ∷ [])) = subst AreLow (sym (counts-more before t)) (low-token (letters before) (counts before) t.kind k.0 a) in
-    subst (λ xs. AreGenerators (letters xs) (counts xs)) (append_assoc before (t ∷ []) ts) (fault-sound (before ++ t ∷ []) ts end l k.1)
+    let l : AreBegun (letters (before ++ t ∷ [])) (counts (before ++ t ∷ [])) =
+    subst (λ ls. AreBegun ls (counts (before ++ t ∷ []))) (sym (flat-one (λ u. letter_of u.kind) before t))
+    (subst (AreBegun (letters before ++ letter_of t.kind)) (sym (flat-one (λ u. count_of u.kind) before t)) (begun-token (letters before) (counts before) t.kind k.0 a)) in
+    subst (λ xs. AreNamed (letters xs) (counts xs)) (append_assoc before (t ∷ []) ts) (fault-sound (before ++ t ∷ []) ts end l k.1)
 
 bad-none : (o : Option ℕ) → bad_generators o ≡ None → o ≡ None
 bad-none None h = refl
 bad-none (Some place) h = absurd (cc)
 
-generators-sound : (twice : Bool) (ts : List Token) (end : ℕ) → (if twice then Some refusals.GeneratorsTwice else bad_generators (generators_fault ts end)) ≡ None → AreGenerators (letters ts) (counts ts)
+none-begun : AreBegun [] []
+none-begun = record { known = All-nil _; different = λ i j d k l. absurd (omega arith); positive = All-nil _; low = omega arith; within = omega arith }
+
+generators-sound : (twice : Bool) (ts : List Token) (end : ℕ) → (if twice then Some refusals.GeneratorsTwice else bad_generators (generators_fault ts end)) ≡ None → AreNamed (letters ts) (counts ts)
 generators-sound true ts end h = absurd (cc)
-generators-sound false ts end h = fault-sound [] ts end (record { positive = All-nil _; low = omega arith }) (bad-none (generators_fault ts end) h)
+generators-sound false ts end h = fault-sound [] ts end none-begun (bad-none (generators_fault ts end) h)
+
+-- no letters
+pub none-letters : AreLetters []
+none-letters = AreLetters-from_different [] none-begun.known none-begun.different
 
 fault-none : (o : Option Fault) (n : ℕ) → fault_refusal o n ≡ None → o ≡ None
 fault-none None n h = refl
 fault-none (Some x) n h = absurd (cc)
+
+not-many : (many : Bool) (o : Option Fault) (n : ℕ) → (if many then Some refusals.TooManyIdentities else fault_refusal o n) ≡ None → many ≡ false
+not-many true o n h = absurd (cc)
+not-many false o n h = refl
+
+few-more : (fs : List Poly) (f : Poly) → nat_le 32 (length fs) ≡ false → length (fs ++ f ∷ []) ≤ 32
+few-more fs f h = let l : length fs < 32 = grind (arith, nat_tests, h) in omega (arith, l, length-append fs (f ∷ []))
 
 refusal-none : (many : Bool) (o : Option Fault) (n : ℕ) → (if many then Some refusals.TooManyIdentities else fault_refusal o n) ≡ None → o ≡ None
 refusal-none true o n h = absurd (cc)
@@ -125,13 +147,17 @@ stated-sound b (asking.Field p) h k =
     unless-sound (field_refusal b p) Accepted (record { field = p; letters = b.letters; counts = b.counts; identities = b.identities }) b h (λ none. record {
       field = field-in_table p (nat_lt 0 (length b.identities)) (is_in_table p) refl none;
       generators = h.generators;
+      letters = h.letters;
+      few = h.few;
       homogeneous = h.homogeneous;
       faultless = h.faultless;
     })
 stated-sound b (asking.Generators ts end) h k =
     unless-sound (generators_refusal b ts end) Accepted (record { field = b.field; letters = letters ts; counts = counts ts; identities = b.identities }) b h (λ none. record {
       field = h.field;
-      generators = generators-sound (nat_lt 0 (length b.letters)) ts end none;
+      generators = (generators-sound (nat_lt 0 (length b.letters)) ts end none).generators;
+      letters = (generators-sound (nat_lt 0 (length b.letters)) ts end none).letters;
+      few = h.few;
       homogeneous = h.homogeneous;
       faultless = h.faultless;
     })
@@ -139,6 +165,8 @@ stated-sound b (asking.Identity f) h k =
     unless-sound (identity_refusal b f) (NumberedIdentity (length b.identities + 1)) (record { field = b.field; letters = b.letters; counts = b.counts; identities = b.identities ++ f ∷ [] }) b h (λ none. record {
       field = h.field;
       generators = h.generators;
+      letters = h.letters;
+      few = few-more b.identities f (not-many (nat_le 32 (length b.identities)) (identity_fault f) (linear_count f) none);
       homogeneous = each-append (λ f. IsHomogeneous (leading_type f) f) b.identities (f ∷ []) h.homogeneous
           (homogeneous-no_fault f k (refusal-none (nat_le 32 (length b.identities)) (identity_fault f) (linear_count f) none), tt);
       faultless = each-append (λ f. identity_fault f ≡ None) b.identities (f ∷ []) h.faultless (refusal-none (nat_le 32 (length b.identities)) (identity_fault f) (linear_count f) none, tt);

@@ -1,19 +1,19 @@
 -- What the answer to a question means, and that each question has one.
-use Rattle.std.proofs.Common.{arith, ◌≡◌, ℕ, ◌<◌, Bool, true, false, List, [], ◌∷◌, length, map, sum, Option, Some, None, refl, sym, ap, ◌∙◌, subst, nat_lt}
-use Rattle.std.specs.Prelude.{IsTrue, All, if◌then◌else◌}
+use Rattle.std.proofs.Common.{arith, ◌≡◌, ℕ, ◌<◌, Bool, true, false, List, [], ◌∷◌, length, map, sum, Option, Some, None, refl, sym, subst, nat_lt}
+use Rattle.std.specs.Prelude.{if◌then◌else◌}
 use Rattle.gf_field.proofs.Table.{IsPrime-from_table}
 use Rattle.alb_mono.specs.Listing.{Each}
-use Rattle.alb_mono.specs.Tree.{Tree, are_below, type_of, type_le}
+use Rattle.alb_mono.specs.Tree.{Tree, type_le}
 use Rattle.alb_mono.proofs.Both.{and_left, and_right}
 use Rattle.alb_mono.proofs.Leaves.{below_from_test}
 use Rattle.alb_poly.specs.Poly.{Poly, greatest_degree}
-use Rattle.alb_poly.specs.Instance.{Form}
-use Rattle.alb_poly.specs.Identity.{IsAtMost, IsWithin}
+use Rattle.alb_poly.specs.Identity.{IsAtMost}
 use Rattle.alb_poly.specs.Consequence.{IsConsequence}
 use Rattle.alb_poly.specs.Textbook.{IsTextConsequence}
 use Rattle.alb_problem.specs.Builder.{Builder, with_degrees}
 use Rattle.alb_problem.specs.Refusals.{finish_refusal}
-use Rattle.alb_problem.proofs.TextbookLemmas.{IsWithin-terms, MatchesTextbook-linearizations}
+use Rattle.alb_poly.proofs.AtMost.{IsWithin-terms}
+use Rattle.alb_problem.proofs.TextbookLemmas.{MatchesTextbook-linearizations}
 use Rattle.alb_table.specs.Table.{Table}
 use Rattle.alb_table.specs.Leading.{difference}
 use Rattle.alb_query.specs.Answer.{Answer, Zero, NotZero, NotBuilt, OutOfType, fits, misfit, IsAnswer, AnswersUnless, AnswersFitting, AnswersWithin}

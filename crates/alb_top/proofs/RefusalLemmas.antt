@@ -16,9 +16,9 @@ use Rattle.alb_problem.specs.Refusals as refusals
 use Rattle.alb_problem.specs.Refusals.{Tells, AnswersOrNoMemory, field_refusal, bad_generators, generators_refusal, fault_refusal, identity_refusal, finish_refusal}
 use Rattle.alb_problem.specs.declared.error.ProblemError.{ProblemError}
 use Rattle.alb_problem.specs.declared.error.ProblemError.TheVariants as error
-use Rattle.alb_script.specs.Refusals.{problem_text, is_problem_memory, IsProblemOverAlphabet}
+use Rattle.alb_script.specs.Refusals.{stated_text, told_by_problem, or_nothing, is_problem_memory, IsProblemOverAlphabet}
 use Rattle.alb_script.specs.declared.refusal.Refusal.TheVariants as refusal
-use Rattle.alb_top.specs.Script.{Reply, RefusedLine, stated_text, unless}
+use Rattle.alb_top.specs.Script.{Reply, RefusedLine, unless}
 use Rattle.alb_top.specs.View.{answer, CanBeWritten, IsAnswer, of_problem}
 use Rattle.alb_top.specs.declared.reply.Reply as Rust
 use Rattle.alb_top.specs.declared.reply.Reply.TheVariants as reply
@@ -29,7 +29,7 @@ use Rattle.alb_top.specs.declared.reply.Reply.TheVariants as reply
 pub record IsTold (e : ProblemError) (found : Option refusals.Refusal) : Type 0 where
   pub refusal : refusals.Refusal
   pub found_is : found ≡ Some refusal
-  pub text : problem_text e ≡ stated_text refusal
+  pub text : or_nothing (told_by_problem e) ≡ stated_text refusal
   pub memory : is_problem_memory e ≡ false
 
 pub told : (e : ProblemError) (found : Option refusals.Refusal) → Tells e found → IsTold e found
@@ -49,7 +49,7 @@ told error.FieldTooSmall found h = record { refusal = refusals.FieldTooSmall; fo
 told error.NoMemory found h = absurd h
 
 -- the answer to what is refused
-pub unless-told : (e : ProblemError) (found : Option refusals.Refusal) (reply : Reply) (new old : Builder) → Tells e found → (RefusedLine (problem_text e), old) ≡ unless found reply new old
+pub unless-told : (e : ProblemError) (found : Option refusals.Refusal) (reply : Reply) (new old : Builder) → Tells e found → (RefusedLine (or_nothing (told_by_problem e)), old) ≡ unless found reply new old
 unless-told e found reply new old h =
     let t = told e found h in
     ap (λ text. (RefusedLine text, old)) t.text ∙ sym (ap (λ o. unless o reply new old) t.found_is)

@@ -1,10 +1,9 @@
 -- Every state that a script comes to is sound, and each line has an answer there, which is justified.
-use Rattle.std.proofs.Common.{◌≡◌, ℕ, ◌+◌, ◌<◌, Bool, true, false, List, [], ◌∷◌, ◌++◌, length, map, All, Option, Some, None, Result, Ok, Err, refl, sym, ap, ◌∙◌, subst, arith}
-use Rattle.std.specs.Prelude.{if◌then◌else◌, IsTrue, codes, nat_lt}
+use Rattle.std.proofs.Common.{◌≡◌, ℕ, Bool, true, false, List, [], ◌++◌, length, map, Option, Some, None, Result, Ok, Err, refl, sym, ap, ◌∙◌, subst, arith}
+use Rattle.std.specs.Prelude.{if◌then◌else◌, codes, nat_lt}
 use Rattle.std.proofs.lemmas.List.Elements.{All-nil}
 use Rattle.gf_field.specs.Primes.{IsInTable, is_in_table, primes}
 use Rattle.gf_field.proofs.Table.{IsPrime-from_table}
-use Rattle.alb_mono.specs.Tree.{are_below}
 use Rattle.alb_poly.specs.Poly.{Poly}
 use Rattle.alb_poly.specs.Instance as instances
 use Rattle.alb_poly.specs.Textbook.{IsTextConsequence}
@@ -13,7 +12,7 @@ use Rattle.alb_problem.specs.Refusals as refusals
 use Rattle.alb_problem.specs.Refusals.{finish_refusal}
 use Rattle.alb_script.specs.Asked as asking
 use Rattle.alb_script.specs.Asked.{Asked}
-use Rattle.alb_script.specs.Refusals.{command_text}
+use Rattle.alb_script.specs.Refusals.{command_text, stated_text}
 use Rattle.alb_script.specs.Words.{belongs}
 use Rattle.alb_script.specs.declared.word.Word.TheVariants as word
 use Rattle.alb_script.specs.declared.form.Form.{Form}
@@ -33,12 +32,12 @@ use Rattle.alb_query.proofs.LawLemmas.{each-is-answered}
 use Rattle.alb_trace.proofs.Shown.{each-is-shown}
 use Rattle.alb_answer.specs.Answers.{answer_line, dimension_lines, product_lines, built_line}
 use Rattle.alb_top.specs.Verdict.{Verdict, Rejected, IsVerdict, IsJustified, derived, block_text, of_table}
-use Rattle.alb_top.specs.Script.{State, Open, NoBlock, Claimed, Refused, Reply, Nothing, Ready, Told, RefusedLine, Judged, start, forms_of, stated_text, stated, with_problem, tell, obey, IsTableOf, Builds, BuildsBy, BuildsUnless, AsksTable, Obeys, ObeysLine, Commands, refuse_line, asked_of, letters_of, total_of, begins_block, shut, Judges, EndsBlock, inside, OfBlock, AnswersIn, AnswersLine, AnswersEnd, Step, Finish, shown_text, text_of}
+use Rattle.alb_top.specs.Script.{State, Open, NoBlock, Claimed, Refused, Reply, Nothing, Ready, Told, RefusedLine, Judged, start, forms_of, stated, with_problem, tell, obey, Builds, BuildsBy, BuildsUnless, AsksTable, Obeys, ObeysLine, Commands, refuse_line, asked_of, letters_of, total_of, begins_block, shut, Judges, EndsBlock, inside, OfBlock, AnswersIn, AnswersLine, AnswersEnd, Step, Finish, shown_text, text_of}
 use Rattle.alb_top.specs.View.{IsTimely, StandsBy}
 use Rattle.alb_top.specs.Sound.{IsSoundProblem, IsSound, IsBehindBuild, HasRight, HasTable}
 use Rattle.alb_top.proofs.EvidenceLemmas.{evidence-raw}
 use Rattle.alb_top.proofs.AskedLemmas.{IsKnown, asked-timely, asked-known}
-use Rattle.alb_top.proofs.ProblemLemmas.{stated-sound, text-consequence, table-positive, same-named, all-homogeneous, polynomials-named, accepted-large, problem-forms, forms-multilinear}
+use Rattle.alb_top.proofs.ProblemLemmas.{none-letters, stated-sound, text-consequence, table-positive, same-named, all-homogeneous, polynomials-named, accepted-large, problem-forms, forms-multilinear}
 use Rattle.alb_top.proofs.QuestionLemmas.{answer-meant, shown-meant}
 use Rattle.alb_top.proofs.Totality.{problem-ends}
 
@@ -255,7 +254,7 @@ table-form form.Check is = absurd (cc)
 table-form form.Batch is = refl
 table-form form.Session is = refl
 
-letters-built : (b : Bool) (ls : List ℕ) → b ≡ true → (if b then ls else []) ≡ ls
+pub letters-built : (b : Bool) (ls : List ℕ) → b ≡ true → (if b then ls else []) ≡ ls
 letters-built true ls h = refl
 letters-built false ls h = absurd (cc)
 
@@ -435,6 +434,8 @@ sound-start f = record {
   problem = record {
     field = refl;
     generators = record { named = refl; positive = All-nil _; low = omega arith };
+    letters = none-letters;
+    few = omega arith;
     homogeneous = tt;
     faultless = tt;
   };

@@ -20,7 +20,6 @@ use Rattle.alb_top.specs.declared.script.Script.{Script}
 use Rattle.alb_top.specs.declared.turn.Taken.{Taken}
 use Rattle.alb_top.specs.declared.turn.Taken.TheVariants as took
 use Rattle.alb_top.specs.Going.{TakesTurn, AnswersLines, Pauses, EndsLines, Stops, claimed, refused}
-use Rattle.alb_top.proofs.RunLemmas.{Run-join, Run-one}
 
 -- ---- reading
 
@@ -120,8 +119,18 @@ pub block-answered : (old new : Reader) (s mid next : State) (now now' : Option 
 block-answered old new s mid next now now' lines reply r run going ends = record {
   lines = lines ++ r.closes.0 ∷ [];
   reads = lines-more lines r.closes.0 old r.last new now r.between now' r.inside r.closes.2;
-  run = Run-join Step s mid next lines (r.closes.0 ∷ []) [] (text_of reply) run
-      (Run-one Step mid next r.closes.0 (text_of reply) (end-step mid next r.closes.0 reply going (ends r.closes.0 r.closes.1)));
+  answers = record {
+    before = lines;
+    line = r.closes.0;
+    body = [];
+    end = text_of reply;
+    mid = mid;
+    lines_are = refl;
+    text_is = refl;
+    run = run;
+    runs = going;
+    step = end-step mid next r.closes.0 reply going (ends r.closes.0 r.closes.1);
+  };
   running = r.closes.2.running;
   fewer = omega (arith, lines-fewer lines old r.last now r.between r.inside, line-fewer r.last new r.between now' r.closes.0 r.closes.2);
 }
@@ -148,7 +157,18 @@ pub answers-after : (first old new : Reader) (s mid next : State) (was now now' 
 answers-after first old new s mid next was now now' line reply r st a = record {
   lines = line ∷ a.lines;
   reads = (old, now, r, a.reads);
-  run = ([], text_of reply, mid, refl, st, a.run);
+  answers = record {
+    before = line ∷ a.answers.before;
+    line = a.answers.line;
+    body = a.answers.body;
+    end = a.answers.end;
+    mid = a.answers.mid;
+    lines_are = ap (λ l. line ∷ l) a.answers.lines_are;
+    text_is = a.answers.text_is;
+    run = ([], a.answers.body, mid, refl, st, a.answers.run);
+    runs = a.answers.runs;
+    step = a.answers.step;
+  };
   running = a.running;
   fewer = omega (arith, line-fewer first old was now line r, a.fewer);
 }
@@ -166,12 +186,12 @@ pauses-after answer first old new s mid next was now now' line r st a = record {
 }
 
 -- a line was read and answered
-pub answers-line : (first old : Reader) (s next : State) (was now : Option (List ℕ)) (line : List ℕ) (reply : Reply) → ReadsLine first old was now line → Step s line (text_of reply) next
+pub answers-line : (first old : Reader) (s next : State) (was now : Option (List ℕ)) (line : List ℕ) (reply : Reply) → s.closed ≡ false → ReadsLine first old was now line → Step s line (text_of reply) next
     → AnswersLines first old s next was now reply
-answers-line first old s next was now line reply r st = record {
+answers-line first old s next was now line reply going r st = record {
   lines = line ∷ [];
   reads = (old, now, r, (refl, refl));
-  run = Run-one Step s next line (text_of reply) st;
+  answers = record { before = []; line = line; body = []; end = text_of reply; mid = s; lines_are = refl; text_is = refl; run = (refl, refl); runs = going; step = st };
   running = r.running;
   fewer = line-fewer first old was now line r;
 }

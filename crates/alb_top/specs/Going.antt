@@ -12,7 +12,7 @@ use Rattle.alb_script.specs.declared.form.Form.{Form}
 use Rattle.alb_top.specs.Runs.{Run}
 use Rattle.alb_top.specs.Script.{State, Reply, Claimed, Refused, start, Step, EndsBlock, text_of}
 use Rattle.alb_top.specs.View.{answer, state, IsScript, IsAnswer, AsksFor}
-use Rattle.alb_top.specs.Outcome.{Writes}
+use Rattle.alb_top.specs.Outcome.{Writes, AnswersUpTo, input_of}
 use Rattle.alb_top.specs.declared.script.Asks.{Asks}
 use Rattle.alb_top.specs.declared.turn.Taken.{Taken}
 use Rattle.alb_top.specs.declared.turn.Taken.TheVariants as took
@@ -27,11 +27,11 @@ pub record Going (form : Form) (reader : Reader) (script : State) (first now bef
   pub run : Run Step (start form) lines text script
   pub room : reader.room + length taken ≡ 2 ^ 40
 
--- lines were read and answered, and the last of them by this
+-- lines were read and answered by this, and none before the last ended the script
 pub record AnswersLines (old new : Reader) (script next : State) (before now : Option (List ℕ)) (reply : Reply) : Type 0 where
   pub lines : List (List ℕ)
   pub reads : ReadsLines lines old new before now
-  pub run : Run Step script lines (text_of reply) next
+  pub answers : AnswersUpTo script lines (text_of reply) next
   pub running : new.ended ≡ false
   pub fewer : new.room + length new.held < old.room + length old.held
 
@@ -87,13 +87,15 @@ claimed f s = record s { block = Claimed f [] }
 abbrev pub refused : List ℕ → State → State
 refused text s = record s { block = Refused text }
 
--- what a run of a script of this form did: the bytes that it took, the text that it appended, and what the text is to the input
+-- What a run of a script of this form did: the bytes that it took, the text that it appended, and what the text is to the input.
+-- Of an input that does not tell its bytes, it is that to the bytes that were taken.
 pub record Outcome (form : Form) (status : Status) (first now before after : Option (List ℕ)) : Type 0 where
   pub taken : List ℕ
   pub text : List ℕ
   pub consumed : Consumes first now taken
   pub written : Appends before after text
-  pub writes : (input : List ℕ) → first ≡ Some input → Writes form status input taken text
+  pub limit : length taken ≤ 2 ^ 40
+  pub writes : Writes form status (input_of first taken) taken text
 
 -- nothing was taken and nothing appended
 pub record IsIdle (first now before after : Option (List ℕ)) : Type 0 where

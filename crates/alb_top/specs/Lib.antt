@@ -6,3 +6,4 @@ pub mod Forms
 pub mod Runs
 pub mod Outcome
 pub mod Going
+pub mod Laws

@@ -2,17 +2,14 @@
 use Rattle.std.specs.Prelude.{◌≡◌, ℕ, ◌+◌, Bool, true, false, ◌&&◌, List, [], ◌∷◌, ◌++◌, length, map, drop, sum, Option, None, Some, Result, Ok, Err, nat_eq, nat_lt, if◌then◌else◌, decimal, codes}
 use Rattle.std.specs.List.{starts_with}
 use Rattle.alb_lex.specs.Lexing.{is_blank}
-use Rattle.alb_mono.specs.Letters.{alphabet}
 use Rattle.alb_poly.specs.Poly.{Poly}
 use Rattle.alb_poly.specs.Instance.{Form}
-use Rattle.alb_print.specs.Text.{mono_text}
-use Rattle.alb_linear.specs.Identity as identity
 use Rattle.alb_problem.specs.Generators.{letters, counts}
 use Rattle.alb_problem.specs.Builder.{Builder, linear_form}
 use Rattle.alb_problem.specs.Refusals as refusals
 use Rattle.alb_script.specs.Asked as asking
 use Rattle.alb_script.specs.Asked.{Asked, Field, Generators, Identity, Build, Claim, Quit, asked}
-use Rattle.alb_script.specs.Refusals.{line_of, command_text}
+use Rattle.alb_script.specs.Refusals.{line_of, command_text, stated_text}
 use Rattle.alb_script.specs.declared.form.Form as scripts
 use Rattle.alb_script.specs.declared.form.Form.TheVariants as form
 use Rattle.alb_script.specs.declared.error.CommandError.{CommandError}
@@ -80,25 +77,6 @@ text_of Ready = codes "ready\n"
 text_of (Told text) = text
 text_of (RefusedLine text) = text
 text_of (Judged v) = verdict_text v
-
--- ---- refusals of the problem
-
-abbrev pub fault_text : identity.Fault → List ℕ
-fault_text identity.Zero = codes "refused 30\n"
-fault_text (identity.NotHomogeneous m) = line_of (codes "refused 31: ") (mono_text alphabet false m)
-fault_text identity.DegreeOne = codes "refused 32\n"
-fault_text identity.DegreeOver8 = codes "refused 33\n"
-
-abbrev pub stated_text : refusals.Refusal → List ℕ
-stated_text refusals.NotInTable = codes "refused 1\n"
-stated_text refusals.FieldAfterIdentity = codes "refused 40\n"
-stated_text refusals.GeneratorsTwice = codes "refused 45\n"
-stated_text (refusals.BadGenerators place) = line_of (codes "refused 41 at ") (decimal place)
-stated_text refusals.TooManyIdentities = codes "refused 42\n"
-stated_text (refusals.NoIdentity fault) = fault_text fault
-stated_text (refusals.TooManyLinear n) = line_of (codes "refused 34: ") (decimal n)
-stated_text refusals.NoGenerators = codes "refused 43\n"
-stated_text refusals.FieldTooSmall = codes "refused 44\n"
 
 -- a line was refused, or its evidence rejected
 abbrev pub is_clean : Reply → Bool

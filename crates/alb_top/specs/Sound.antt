@@ -1,6 +1,7 @@
 -- What is true of every state that a script comes to.
-use Rattle.std.specs.Prelude.{◌≡◌, Bool, true, false, Option, None, Some}
+use Rattle.std.specs.Prelude.{◌≡◌, ◌≤◌, Bool, true, false, length, Option, None, Some}
 use Rattle.gf_field.specs.Primes.{IsInTable}
+use Rattle.alb_mono.specs.Letters.{AreLetters}
 use Rattle.alb_mono.specs.Listing.{Each}
 use Rattle.alb_poly.specs.Identity.{IsHomogeneous}
 use Rattle.alb_linear.specs.Identity.{leading_type, identity_fault}
@@ -12,10 +13,13 @@ use Rattle.alb_script.specs.declared.form.Form.TheVariants.{Check}
 use Rattle.alb_table.specs.Table.{Table}
 use Rattle.alb_top.specs.Script.{State, Open, Claimed, IsTableOf}
 
--- the field is one of the table, each count has its letter, and the identities are homogeneous, of degree 2 to 8
+-- the field is one of the table, the generators have different letters, each with its count, and there are at most 32 identities,
+-- which are homogeneous, of degree 2 to 8
 pub record IsSoundProblem (b : Builder) : Type 0 where
   pub field : IsInTable b.field
   pub generators : AreGenerators b.letters b.counts
+  pub letters : AreLetters b.letters
+  pub few : length b.identities ≤ 32
   pub homogeneous : Each (λ f. IsHomogeneous (leading_type f) f) b.identities
   pub faultless : Each (λ f. identity_fault f ≡ None) b.identities
 

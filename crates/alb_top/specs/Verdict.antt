@@ -14,8 +14,9 @@ use Rattle.alb_evidence.specs.Block as block
 use Rattle.alb_evidence.specs.Block.{Evidence, Fault, BadLine, BadNumber}
 use Rattle.alb_table.specs.Leading.{difference}
 use Rattle.alb_problem.specs.Satisfied.{AreSameVectors}
+use Rattle.alb_script.specs.Refusals.{line_of}
 use Rattle.alb_query.specs.Answer.{Answer, Zero, NotZero, NotBuilt, OutOfType}
-use Rattle.alb_trace.specs.Proof.{Shown, ByLines, ByTable, ByNothing}
+use Rattle.alb_trace.specs.Proof.{Shown, ByTable}
 
 -- the claim is zero, or it is not, or the evidence is rejected, with this line
 pub data Verdict : Type 0 where
@@ -34,7 +35,7 @@ verdict_text (Rejected text) = text
 
 -- a line that ends with a number
 abbrev pub numbered : List ℕ → ℕ → List ℕ
-numbered front k = front ++ (decimal k ++ codes "\n")
+numbered front k = line_of front (decimal k)
 
 -- the first faulty line of a block
 abbrev pub block_text : Fault → List ℕ

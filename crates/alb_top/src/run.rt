@@ -55,6 +55,7 @@ fn run_script<S: Source, K: Sink>(
     ensures read_fault { result ≡ Status.ReadFault → Rose (S.faults input.old) (S.faults input.new) }
     ensures write_fault { result ≡ Status.WriteFault → Rose (K.faults output.old) (K.faults output.new) }
     ensures sound { S.is_sound input.old → S.is_sound input.new × (result ≢ Status.ReadFault) }
+    ensures same_name { K.name output.new ≡ K.name output.old }
     ensures checked { result ≢ Status.Usage }
     ensures no_open_fault { result ≢ Status.OpenFault }
     ensures no_report_fault { result ≢ Status.ReportFault }
@@ -93,7 +94,8 @@ pub fn run_albert<R: Threads, D: Desk, S: Source, K: Sink>(
     ensures outcome { Does (form_of words.now) result (S.left input.old) (S.left input.new) (K.taken output.old) (K.taken output.new) }
     ensures read_fault { result ≡ Status.ReadFault → Rose (S.faults input.old) (S.faults input.new) }
     ensures write_fault { result ≡ Status.WriteFault → Rose (K.faults output.old) (K.faults output.new) }
-    ensures sound { S.is_sound input.old → result ≢ Status.ReadFault }
+    ensures sound { S.is_sound input.old → S.is_sound input.new × (result ≢ Status.ReadFault) }
+    ensures same_name { K.name output.new ≡ K.name output.old }
     ensures desk { desk.new ≡ desk.old }
     ensures no_open_fault { result ≢ Status.OpenFault }
     ensures no_report_fault { result ≢ Status.ReportFault }

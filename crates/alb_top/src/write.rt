@@ -6,7 +6,7 @@ ghost use Rattle.alb_script.specs.Refusals.{line_of};
 ghost use Rattle.alb_query.specs.Views.{answer_of};
 ghost use Rattle.alb_query.specs.Answer.{IsOver};
 ghost use Rattle.alb_answer.specs.Answers.{answer_line};
-ghost use Rattle.alb_top.specs.Verdict.{numbered, verdict_text, failure_text, places_text};
+ghost use Rattle.alb_top.specs.Verdict.{verdict_text, failure_text, places_text};
 ghost use Rattle.alb_top.specs.Script.{shown_text, text_of};
 ghost use Rattle.alb_trace.specs.Proof.{shown, CanBePrinted};
 ghost use Rattle.alb_top.specs.View.{rejection_text, judgement, answer, IsAnswer};
@@ -18,7 +18,7 @@ use alb_io::{Sink, WriteFault, put_all};
 use alb_mono::Letters;
 use alb_print::write_count;
 use alb_query::Reply as Answer;
-use alb_script::write_refusal;
+use alb_script::{write_numbered, write_refusal};
 use alb_trace::Proof;
 
 /// Writes what is answered. No refusal prints by the generators' letters.
@@ -168,15 +168,4 @@ fn write_element<K: Sink>(sink: &mut K, element: u64) -> Result<(), WriteFault>
 {
     put_all(sink, b" ")?;
     write_count(sink, element)
-}
-
-// Writes a line that ends with a number.
-fn write_numbered<K: Sink>(sink: &mut K, front: &[u8], number: u64) -> Result<(), WriteFault>
-    ensures puts { Puts result (K.taken sink.old) (K.taken sink.new) (numbered front.now number) }
-    ensures same_name { K.name sink.new ≡ K.name sink.old }
-    ensures cause { HasCause (K.faults sink.old) (K.faults sink.new) result }
-{
-    put_all(sink, front)?;
-    write_count(sink, number)?;
-    put_all(sink, b"\n")
 }

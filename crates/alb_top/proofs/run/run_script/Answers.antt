@@ -17,6 +17,7 @@ turns-init g c = record {
   not_ended = ap (λ (r : Reader). r.ended) c.requires.fresh;
   reads = search rules;
   writes = search rules;
+  name = search rules;
   sound = λ s. s;
 }
 
@@ -69,9 +70,9 @@ returns-in-NoMemory-clause-outcome g c =
 
 pub returns-then-is_closed-clause-outcome : goal.returns-then-is_closed-clause-outcome
 returns-then-is_closed-clause-outcome g c =
-    let going = Going-lines (state c.args.first).form _ _ _ (state c.in-Reply.next) _ _ _ _ _ _ (answer c.in-Reply.reply) c.turns.invariant.going c.in-Reply.ensures.takes c.in-Ok.ensures.puts in
     subst (λ (s : Status). Outcome (state c.args.first).form s (g.S.Source.left c.args.input.now) (g.S.Source.left c.take_turn.new.input) (g.K.Sink.taken c.args.output.now) (g.K.Sink.taken c.write_reply.new.sink))
-    (sym (c.status-then-is_closed.ensures ∙ ap status_of c.is_clean-then-is_closed.ensures)) (Outcome-closed (state c.args.first).form _ _ _ _ _ _ going (sym c.if-is_closed.ensures))
+    (sym (c.status-then-is_closed.ensures ∙ ap status_of c.is_clean-then-is_closed.ensures))
+    (Outcome-closed (state c.args.first).form _ _ _ (state c.in-Reply.next) _ _ _ _ _ _ (answer c.in-Reply.reply) c.turns.invariant.going c.in-Reply.ensures.takes c.in-Ok.ensures.puts (sym c.if-is_closed.ensures))
 
 pub turns-preserved : goal.turns-preserved
 turns-preserved g c = record {
@@ -81,5 +82,6 @@ turns-preserved g c = record {
   not_ended = c.in-Reply.ensures.takes.running;
   reads = search rules;
   writes = search rules;
+  name = search rules;
   sound = λ s. (c.take_turn.ensures.sound (c.turns.invariant.sound s)).0;
 }

@@ -11,6 +11,7 @@ invariant-turns g l = record {
   not_ended : l.reader.ended ≡ false;
   reads : g.S.Source.faults l.fn.input ≤ g.S.Source.faults l.input;
   writes : g.K.Sink.faults l.fn.output ≤ g.K.Sink.faults l.output;
+  name : g.K.Sink.name l.output ≡ g.K.Sink.name l.fn.output;
   sound : g.S.Source.is_sound l.fn.input → g.S.Source.is_sound l.input;
 }
 

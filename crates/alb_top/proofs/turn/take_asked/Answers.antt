@@ -15,7 +15,7 @@ asked-by a b s line is h = subst (λ (x : Asks). AsksFor x s line) is h
 pub returns-in-Ok-clause-takes : goal.returns-in-Ok-clause-takes
 returns-in-Ok-clause-takes g c first was line r short h =
     let s = state c.args.script in
-    answers-line first _ s (state c.in-Ok.next) was _ line (answer c.in-Ok.reply) r
+    answers-line first _ s (state c.in-Ok.next) was _ line (answer c.in-Ok.reply) c.requires.going r
     (step-obeyed s (state c.in-Ok.next) line (answer c.in-Ok.reply) (view c.in-Command.command) c.requires.going refl short (asked-by _ _ s line c.in-Command.is h) c.in-Ok.ensures.told)
 
 pub returns-in-Err-clause-takes : goal.returns-in-Err-clause-takes
@@ -31,7 +31,7 @@ pub returns-in-Refusal-clause-takes : goal.returns-in-Refusal-clause-takes
 returns-in-Refusal-clause-takes g c first was line r short h =
     let s = state c.args.script in
     let e = asked-by _ _ s line c.in-Refusal.is h in
-    answers-line first _ s (state c.refuse-reply.result.1) was _ line (answer c.refuse-reply.result.0) r
+    answers-line first _ s (state c.refuse-reply.result.1) was _ line (answer c.refuse-reply.result.0) c.requires.going r
     (step-refused s (state c.refuse-reply.result.1) line (answer c.refuse-reply.result.0) c.in-Refusal.error c.requires.going refl short e.0 e.1 c.refuse-reply.ensures.told)
 
 pub returns-in-RefusedClaim-clause-takes : goal.returns-in-RefusedClaim-clause-takes

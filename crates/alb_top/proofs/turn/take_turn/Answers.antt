@@ -1,4 +1,4 @@
-use Rattle.std.proofs.Common.{◌≡◌, [], ◌∷◌, List, ℕ, Option, Some, refl, subst, sym, ◌∙◌}
+use Rattle.std.proofs.Common.{◌≡◌, [], ◌∷◌, List, ℕ, Option, Some, refl, subst}
 use Rattle.alb_top.specs.View.{state, AsksFor, answer}
 use Rattle.alb_top.proofs.TurnLemmas.{answers-line, step-command, commands-long}
 use Rattle.alb_top.proofs.turn.take_turn.Goals as goal
@@ -21,7 +21,7 @@ returns-in-Err-clause-takes g c =
 pub returns-in-TooLong-clause-takes : goal.returns-in-TooLong-clause-takes
 returns-in-TooLong-clause-takes g c =
     let r = c.in-TooLong.ensures.reads in
-    answers-line _ _ (state c.args.script) (state c.refuse-reply.result.1) _ _ r.gives.0 (answer c.refuse-reply.result.0) (record { answer = _; reads = r; is_first = r.gives.3; running = r.gives.4 })
+    answers-line _ _ (state c.args.script) (state c.refuse-reply.result.1) _ _ r.gives.0 (answer c.refuse-reply.result.0) c.requires.going (record { answer = _; reads = r; is_first = r.gives.3; running = r.gives.4 })
     (step-command (state c.args.script) (state c.refuse-reply.result.1) r.gives.0 (answer c.refuse-reply.result.0) c.requires.going refl
     (commands-long (state c.args.script) (state c.refuse-reply.result.1) r.gives.0 (answer c.refuse-reply.result.0) r.gives.2 c.refuse-reply.ensures.told))
 
