@@ -5,6 +5,7 @@ use Rattle.std.specs.List.{All, list_all}
 use Rattle.std.proofs.lemmas.Bool.Decides.{nat_tests}
 use Rattle.std.proofs.lemmas.List.{get_or-map, length-map}
 use Rattle.gf_field.proofs.Table.{IsPrime-from_table}
+use Rattle.alb_mono.proofs.Both.{and_left, and_right}
 use Rattle.alb_mono.specs.Listing.{Each}
 use Rattle.alb_mono.specs.Tree.{type_le}
 use Rattle.alb_poly.specs.Poly.{Poly}
@@ -76,12 +77,6 @@ gives_generators t rows e = subst (GivesGenerators t) (sym e) record {
 }
 
 -- ---- the numbers of elements
-
-and_left : (a b : Bool) → (a && b) ≡ true → a ≡ true
-and_left a b h = grind arith
-
-and_right : (a b : Bool) → (a && b) ≡ true → b ≡ true
-and_right a b h = grind arith
 
 module _ (target : List ℕ) (p : ℕ) (t : Raw) (right : IsShaped target p t) where
   few : length t.elements < 4294967296

@@ -3,6 +3,7 @@ pub mod VectorLemmas
 pub mod ProductLemmas
 pub mod RunLemmas
 pub mod TableLemmas
+pub mod FitLemmas
 pub mod RefuteLemmas
 pub mod ValueLemmas
 pub mod WalkLemmas

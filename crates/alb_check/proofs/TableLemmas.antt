@@ -7,6 +7,7 @@ use Rattle.std.proofs.lemmas.Bool.Decides.{nat_tests}
 use Rattle.std.proofs.Math.Nat.{mul-add, mul-le-mul_left}
 use Rattle.gf_sums.specs.Sums.{total}
 use Rattle.gf_sums.proofs.Totals.{total-append, total-plus, total-times}
+use Rattle.alb_mono.proofs.Both.{and_left, and_right}
 use Rattle.alb_mono.specs.Listing.{Each}
 use Rattle.alb_mono.specs.Tree.{type_le, type_plus}
 use Rattle.alb_poly.specs.Instance.{Form, IsMultilinearForm}
@@ -45,12 +46,6 @@ shaped target p t h =
     let e = passed (are_ascending t.entries) 5 _ d.1 in
     let f = passed (are_nonzero p t.entries) 6 _ e.1 in
     record { top = a.0; elements = b.0; generators = c.0; entries = d.0; ascending = e.0; nonzero = f.0 }
-
-and_left : (a b : Bool) → (a && b) ≡ true → a ≡ true
-and_left a b h = grind arith
-
-and_right : (a b : Bool) → (a && b) ≡ true → b ≡ true
-and_right a b h = grind arith
 
 all_at : {X : Type 0} (test : X → Bool) (xs : List X) (i : ℕ) (d : X) → list_all test xs ≡ true → i < length xs → test (get_or xs i d) ≡ true
 all_at test [] i d h l = absurd (omega arith)

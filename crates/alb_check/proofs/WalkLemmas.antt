@@ -15,6 +15,7 @@ use Rattle.std.proofs.lemmas.List.Elements.{filter_passes}
 use Rattle.gf_sums.specs.Sums.{Comb}
 use Rattle.gf_sums.proofs.Totals.{total-append}
 use Rattle.gf_sums.proofs.Alike.{joined, turned}
+use Rattle.alb_mono.proofs.Both.{and_left, and_right}
 use Rattle.alb_mono.specs.Listing.{Each, IsIn}
 use Rattle.alb_mono.specs.Tree.{type_le, are_below}
 use Rattle.alb_mono.specs.Types.{type_minus, rising}
@@ -161,12 +162,6 @@ minus_long : (xs ys : List ℕ) → length (type_minus xs ys) ≡ length xs
 minus_long [] ys = refl
 minus_long (x ∷ xs) [] = refl
 minus_long (x ∷ xs) (y ∷ ys) = ap suc (minus_long xs ys)
-
-and_left : (a b : Bool) → (a && b) ≡ true → a ≡ true
-and_left a b h = grind arith
-
-and_right : (a b : Bool) → (a && b) ≡ true → b ≡ true
-and_right a b h = grind arith
 
 -- what is at most a difference is at most the first
 le_minus : (xs ys zs : List ℕ) → type_le xs (type_minus ys zs) ≡ true → type_le xs ys ≡ true

@@ -1,5 +1,5 @@
 -- The laws of verdicts on tables.
-use Rattle.std.specs.Prelude.{◌≡◌, ◌<◌, ◌⊎◌, ℕ, List, ◌∷◌, length, sum, None, Result}
+use Rattle.std.specs.Prelude.{◌≡◌, ◌<◌, ◌≤◌, ◌⊎◌, ℕ, List, ◌∷◌, length, sum, None, Result}
 use Rattle.gf_field.specs.Primes.{IsPrime}
 use Rattle.alb_poly.specs.Poly.{Poly}
 use Rattle.alb_poly.specs.Instance.{Form}
@@ -14,6 +14,7 @@ use Rattle.alb_table.specs.RightTable.{basis_monos, mono_entry}
 use Rattle.alb_check.specs.declared.check.Counter.{Counter}
 use Rattle.alb_check.specs.declared.error.TableError.{TableError}
 use Rattle.alb_check.specs.Raw.{Raw, IsRaw}
+use Rattle.alb_check.specs.Limits.{IsTableFit}
 use Rattle.alb_check.specs.Shape.{shape_fault}
 use Rattle.alb_check.specs.Answers.{Answers, IsAccepted, RefutesText}
 use Rattle.alb_check.specs.SubTable.{sub_table, IsFirstType}
@@ -75,3 +76,9 @@ FirstColumnHasFirstType =
     → IsRight t.p fs t.target t.degree (basis_monos t.parts) (mono_entry t.parts) → Each (λ s. IsWithin t.target t.degree s.1) g
     → IsVector t.p (length (elems t.parts)) (cell ∷ cells) → AreSameVector t.p (comb (cell ∷ cells)) (table_value t g)
     → IsTypeTo t.target t.degree (type_at t.parts cell.0) × IsFirstType t.p (type_at t.parts cell.0) (poly_value (mono_entry t.parts) g)
+
+-- A table that keeps its shape, within a target of degree at most 12, keeps the limits of its text.
+abbrev pub ShapedTablesFit : Type 0
+ShapedTablesFit =
+    (p : ℕ) (target : List ℕ) (t : Raw) → sum target ≤ 12 → IsRaw p (length target) t → shape_fault target p t ≡ None
+    → IsTableFit p (length target) t

@@ -1,4 +1,5 @@
 pub mod Raw
+pub mod Limits
 pub mod Shape
 pub mod TableAlgebra
 pub mod First

@@ -1,6 +1,6 @@
 //! The laws of verdicts on tables. Each is the contract of a function that does nothing.
 
-ghost use Rattle.alb_check.specs.Laws.{EachTableHasVerdict, VerdictIsUnique, RefutedIsNoConsequence, RefutedIsNoSum, RefutedIsAccepted, SubTableHasShape, SubTableRefutes, EachIsDecided, FirstColumnHasFirstType};
+ghost use Rattle.alb_check.specs.Laws.{EachTableHasVerdict, VerdictIsUnique, RefutedIsNoConsequence, RefutedIsNoSum, RefutedIsAccepted, SubTableHasShape, SubTableRefutes, EachIsDecided, FirstColumnHasFirstType, ShapedTablesFit};
 
 /// Each table has a verdict on each polynomial.
 pub fn each_table_has_a_verdict()
@@ -46,4 +46,10 @@ pub fn each_is_decided()
 /// The first column of a polynomial's value in a right table has the first type of the normal form.
 pub fn first_column_has_first_type()
     ensures { FirstColumnHasFirstType }
+{}
+
+/// A table that keeps all rules of shape, within a target of degree at most 12, keeps the limits of its text: so do the sub-tables
+/// of a table, and all tables that refute a polynomial.
+pub fn shaped_tables_fit()
+    ensures { ShapedTablesFit }
 {}

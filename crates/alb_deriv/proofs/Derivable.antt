@@ -8,7 +8,7 @@ use Rattle.std.proofs.Math.Nat.{mod-eq_of_lt}
 use Rattle.gf_field.specs.Modular.{IsSameMod}
 use Rattle.gf_sums.specs.Sums.{total, weigh, coefficient, scale, reindex}
 use Rattle.gf_sums.proofs.Totals.{total-equal}
-use Rattle.gf_sums.proofs.Alike.{equal, turned, joined}
+use Rattle.gf_sums.proofs.Alike.{Alike, equal, turned, joined}
 use Rattle.alb_mono.specs.Tree.{Tree, leaf, node, count, listed, type_of, type_le, AreBelow, same_tree}
 use Rattle.alb_mono.specs.Listing.{Each}
 use Rattle.alb_mono.specs.declared.side.Side.{Side}
@@ -29,7 +29,7 @@ use Rattle.alb_deriv.proofs.Lines.{values-append, length-values, get-values, las
 -- ---- types within the target
 
 -- each of the counts is at most the target's
-fits : List ℕ → (ℕ → ℕ) → Bool
+unfoldable pub fits : List ℕ → (ℕ → ℕ) → Bool
 fits target f = type_le (listed f 0 (length target)) target
 
 fewer-from : (f g : ℕ → ℕ) (k : ℕ) (target : List ℕ) → ((i : ℕ) → f i ≤ g i) → IsTrue (type_le (listed g k (length target)) target) →
@@ -41,16 +41,16 @@ fewer-from f g k (x ∷ target) h l =
     let b : IsTrue (leb (f k) x) = grind (arith, nat_tests) in
     and_from _ _ b (fewer-from f g (suc k) target h (and_parts _ _ l).1)
 
-fits-fewer : (f g : ℕ → ℕ) (target : List ℕ) → ((i : ℕ) → f i ≤ g i) → IsTrue (fits target g) → IsTrue (fits target f)
+pub fits-fewer : (f g : ℕ → ℕ) (target : List ℕ) → ((i : ℕ) → f i ≤ g i) → IsTrue (fits target g) → IsTrue (fits target f)
 unfolding fits
 fits-fewer f g target h l = fewer-from f g 0 target h l
 
 -- 1 at the generator `g`
-abbrev one_at : ℕ → ℕ → ℕ
+abbrev pub one_at : ℕ → ℕ → ℕ
 one_at g k = if k == g then 1 else 0
 
 -- 1 at each generator that is none of the first `n`
-outside : ℕ → ℕ → ℕ
+pub outside : ℕ → ℕ → ℕ
 outside n k = if ltb k n then 0 else 1
 
 outside-below : (n : ℕ) (m : Tree) → AreBelow n m → leaves (outside n) m ≡ 0
@@ -58,27 +58,27 @@ unfolding outside
 outside-below n (leaf k) h = let e : ltb k n ≡ true = grind (arith, nat_tests) in rw e
 outside-below n (node l r) h = omega (arith, outside-below n l h.0, outside-below n r h.1)
 
-below-outside : (n : ℕ) (m : Tree) → leaves (outside n) m ≡ 0 → AreBelow n m
+pub below-outside : (n : ℕ) (m : Tree) → leaves (outside n) m ≡ 0 → AreBelow n m
 unfolding outside
 below-outside n (leaf k) h = grind (arith, nat_tests)
 below-outside n (node l r) h = (below-outside n l (omega arith), below-outside n r (omega arith))
 
 -- the monomial is at most the target
-is_at_most : List ℕ → Tree → Bool
+unfoldable pub is_at_most : List ℕ → Tree → Bool
 is_at_most target m = leaves (outside (length target)) m == 0 && fits target (λ g. leaves (one_at g) m)
 
-at_most-IsAtMost : (target : List ℕ) (m : Tree) → IsAtMost target m → IsTrue (is_at_most target m)
+pub at_most-IsAtMost : (target : List ℕ) (m : Tree) → IsAtMost target m → IsTrue (is_at_most target m)
 unfolding is_at_most fits type_of
 at_most-IsAtMost target m h = and_from _ _
     (eq-eqb _ 0 (outside-below (length target) m h.below))
     (subst (λ ts. IsTrue (type_le ts target)) (listed-equal _ _ 0 (length target) (λ g. count-leaves g m)) h.counts)
 
 -- the same of all monomials of an item
-item_at_most : List ℕ → Item → Bool
+pub item_at_most : List ℕ → Item → Bool
 item_at_most target it =
     item_leaves (outside (length target)) it.context it.args == 0 && fits target (λ g. item_leaves (one_at g) it.context it.args)
 
-tells-at_most : (target : List ℕ) → TellsOfItems (is_at_most target) (item_at_most target)
+pub tells-at_most : (target : List ℕ) → TellsOfItems (is_at_most target) (item_at_most target)
 unfolding is_at_most item_at_most fits
 tells-at_most target it m h =
     let a = leaves-item (outside (length target)) it.context it.args m h in
@@ -87,11 +87,11 @@ tells-at_most target it m h =
     listed-equal _ _ 0 (length target) (λ g. leaves-item (one_at g) it.context it.args m h) in
     rw (a, b)
 
-item-below : (target : List ℕ) (it : Item) → IsTrue (item_at_most target it) → item_leaves (outside (length target)) it.context it.args ≡ 0
+pub item-below : (target : List ℕ) (it : Item) → IsTrue (item_at_most target it) → item_leaves (outside (length target)) it.context it.args ≡ 0
 unfolding item_at_most
 item-below target it a = eqb-true _ 0 (and_parts _ _ a).0
 
-item-fits : (target : List ℕ) (it : Item) → IsTrue (item_at_most target it) → IsTrue (fits target (λ g. item_leaves (one_at g) it.context it.args))
+pub item-fits : (target : List ℕ) (it : Item) → IsTrue (item_at_most target it) → IsTrue (fits target (λ g. item_leaves (one_at g) it.context it.args))
 unfolding item_at_most
 item-fits target it a = (and_parts _ _ a).1
 
@@ -103,23 +103,23 @@ place_fits n k h = grind (arith, nat_tests)
 earlier-suc : (gs : List Poly) (k : ℕ) → earlier gs (suc k) ≡ get_or gs k []
 earlier-suc gs k = let e : suc k - 1 ≡ k = omega arith in ap (λ j. get_or gs j []) e
 
-reindex-within_none : (f : Poly) → reindex (within []) f ≡ f
+pub reindex-within_none : (f : Poly) → reindex (within []) f ≡ f
 reindex-within_none [] = refl
 reindex-within_none (t ∷ f) = ap (λ g. t ∷ g) (reindex-within_none f)
 
-below_each : (n : ℕ) (ms : List Tree) → total (leaves (outside n)) ms ≡ 0 → AreAllBelow n ms
+pub below_each : (n : ℕ) (ms : List Tree) → total (leaves (outside n)) ms ≡ 0 → AreAllBelow n ms
 below_each n [] h = tt
 below_each n (m ∷ ms) h = (below-outside n m (omega arith), below_each n ms (omega arith))
 
-context_below : (n : ℕ) (c : List (Side × Tree)) → total (λ s. leaves (outside n) s.1) c ≡ 0 → Each (λ s. AreBelow n s.1) c
+pub context_below : (n : ℕ) (c : List (Side × Tree)) → total (λ s. leaves (outside n) s.1) c ≡ 0 → Each (λ s. AreBelow n s.1) c
 context_below n [] h = tt
 context_below n (s ∷ c) h = (below-outside n s.1 (omega arith), context_below n c (omega arith))
 
 module _ (p : ℕ) (target : List ℕ) (fs : List Form) where
-  fits_target : Tree → Bool
+  unfoldable pub fits_target : Tree → Bool
   fits_target m = type_le (type_of (length target) m) target
 
-  fits-inner : (c : List (Side × Tree)) (x : Tree) → IsTrue (fits_target (within c x)) → IsTrue (fits_target x)
+  pub fits-inner : (c : List (Side × Tree)) (x : Tree) → IsTrue (fits_target (within c x)) → IsTrue (fits_target x)
   unfolding fits_target type_of
   fits-inner c x h = fewer-from (λ g. count g x) (λ g. count g (within c x)) 0 target
       (λ g. omega (arith, count-leaves g x, count-leaves g (within c x), leaves-within (one_at g) c x)) h
@@ -230,26 +230,36 @@ module _ (p : ℕ) (target : List ℕ) (fs : List Form) where
         each-append (IsLineBelow (length target)) x.lines (Sum x.sums ∷ []) x.lettered (tt, tt),
       )
 
-  -- Each consequence within the target has a derivation.
-  pub consequence-derivation : (g : Poly) → 0 < p → AreMultilinear fs → IsWithin p target g → IsConsequence p fs g → HasDerivation g
-  consequence-derivation g pos multi within c =
+  -- the polynomial is a sum of items that are at most the target
+  pub record IsOfItems (g : Poly) : Type 0 where
+    pub items : List Item
+    pub are : AreItems fs items
+    pub at_most : Each (λ it. IsTrue (item_at_most target it)) items
+    pub same : Alike p (value fs items) g
+
+  -- Each consequence within the target is.
+  pub consequence-items : (g : Poly) → 0 < p → AreMultilinear fs → IsWithin p target g → IsConsequence p fs g → IsOfItems g
+  consequence-items g pos multi within c =
       let q = is_at_most target in
       let fit = item_at_most target in
       let tells = tells-at_most target in
-      let d = derivation-items (filter fit c.items) multi (kept_are p fs multi q fit tells c.items c.are) (kept_fit p fs multi q fit tells c.items) in
       let small : (m : Tree) → q m ≡ false → IsSameMod p (coefficient same_tree g m) 0 =
       λ m e. elim (cases_eq (coefficient same_tree g m % p) 0) [
         | inl z ↦ record { same = z ∙ sym (mod-eq_of_lt pos) }
         | inr z ↦ absurd (false≢true (sym e ∙ at_most-IsAtMost target m (within m z)))
-      ] in (
-        d.0,
-        record {
-          sound = d.1.sound;
-          last = poly_alike
-              (joined (alike_poly d.1.last)
-              (joined (turned (keep-items p fs multi q fit tells c.items c.are))
-              (joined (keep-alike q _ g (turned (alike_poly c.same)))
-              (keep-same q g small))));
-        },
-        d.2,
-      )
+      ] in
+      record {
+        items = filter fit c.items;
+        are = kept_are p fs multi q fit tells c.items c.are;
+        at_most = kept_fit p fs multi q fit tells c.items;
+        same = joined (turned (keep-items p fs multi q fit tells c.items c.are))
+            (joined (keep-alike q _ g (turned (alike_poly c.same)))
+            (keep-same q g small));
+      }
+
+  -- Each consequence within the target has a derivation.
+  pub consequence-derivation : (g : Poly) → 0 < p → AreMultilinear fs → IsWithin p target g → IsConsequence p fs g → HasDerivation g
+  consequence-derivation g pos multi within c =
+      let k = consequence-items g pos multi within c in
+      let d = derivation-items k.items multi k.are k.at_most in
+      (d.0, record { sound = d.1.sound; last = poly_alike (joined (alike_poly d.1.last) k.same) }, d.2)

@@ -3,6 +3,7 @@ use Rattle.std.proofs.Common.{◌≡◌, ◌<◌, ℕ, ◌+◌, ◌-◌, Bool, t
 use Rattle.std.specs.Prelude.{◌&&◌}
 use Rattle.std.proofs.lemmas.Bool.{false≢true, eqb-true, eq-eqb}
 use Rattle.gf_sums.proofs.Alike.{Alike, joined, turned}
+use Rattle.alb_mono.proofs.Both.{both_tests}
 use Rattle.alb_poly.specs.Poly.{Poly, IsSamePoly}
 use Rattle.alb_poly.specs.Normal.{normal}
 use Rattle.alb_poly.proofs.NormalLemmas.{normal-alike, same-normal}
@@ -37,18 +38,13 @@ module _ (p : ℕ) (target : List ℕ) (fs : List Form) where
       consequence-same p fs d.last
       (each_at (IsConsequence p fs) (line_values fs [] ls) (length ls - 1) [] (consequence-zero p fs) (lines-consequences p target fs [] ls tt d.sound))
 
-and_both : (a b : Bool) → (a && b) ≡ true → (a ≡ true) × (b ≡ true)
-and_both true true h = (refl, refl)
-and_both true false h = absurd (false≢true h)
-and_both false b h = absurd (false≢true h)
-
 pub same_terms-sound : (f g : Poly) → same_terms f g ≡ true → f ≡ g
 same_terms-sound [] [] h = refl
 same_terms-sound [] (t ∷ g) h = absurd (false≢true h)
 same_terms-sound (s ∷ f) [] h = absurd (false≢true h)
 same_terms-sound (s ∷ f) (t ∷ g) h =
-    let a = and_both _ _ h in
-    let b = and_both _ _ a.0 in
+    let a = both_tests _ _ h in
+    let b = both_tests _ _ a.0 in
     let x = eqb-true s.0 t.0 b.0 in
     let y = tree_tells.sound s.1 t.1 b.1 in
     let z = same_terms-sound f g a.1 in λ i. (x i, y i) ∷ z i

@@ -9,3 +9,7 @@ pub mod Appended
 pub mod LongSums
 pub mod Derivable
 pub mod ShortDerivation
+pub mod Limited
+pub mod Counting
+pub mod Dimension
+pub mod Bounded

@@ -11,6 +11,7 @@ use Rattle.std.proofs.lemmas.List.{get_or-map, length-map}
 use Rattle.std.proofs.lemmas.List.Sums.{sum_by-cons}
 use Rattle.gf_sums.specs.Sums.{total, scale, reindex}
 use Rattle.gf_sums.proofs.Alike.{Alike, joined, scale-alike, append-alike, reindex-alike}
+use Rattle.alb_mono.proofs.Both.{and_left, and_right}
 use Rattle.alb_mono.specs.Listing.{Each}
 use Rattle.alb_mono.specs.Tree.{Tree, leaf, node, degree, are_below, AreBelow, count, listed, type_le, cmp_monos}
 use Rattle.gf_sums.specs.Sums.{IsCanonical}
@@ -73,14 +74,6 @@ pub low-together : (target : List ℕ) (ms : List Mono) → sum target ≤ 12 �
     sum_by (λ m. degree (tree m)) ms ≤ 64
 low-together target ms low b h = omega (arith, sum-total ms, within-degree target (map tree ms) (all_below (length target) ms b) h)
 
-and_first : (a b : Bool) → (a && b) ≡ true → a ≡ true
-and_first true b h = refl
-and_first false b h = h
-
-and_second : (a b : Bool) → (a && b) ≡ true → b ≡ true
-and_second true b h = h
-and_second false b h = absurd (false≢true h)
-
 or_none : (a b : Bool) → (a || b) ≡ false → (a ≡ false) × (b ≡ false)
 or_none true b h = absurd (false≢true (sym h))
 or_none false b h = (refl, h)
@@ -92,8 +85,8 @@ not_false false h = absurd (false≢true (sym h))
 pub below-more : (n k : ℕ) (m : Tree) → n ≤ k → IsTrue (are_below n m) → IsTrue (are_below k m)
 below-more n k (leaf i) l h = grind (arith, nat_tests)
 below-more n k (node a b) l h =
-    let x : are_below k a ≡ true = below-more n k a l (and_first _ _ h) in
-    let y : are_below k b ≡ true = below-more n k b l (and_second _ _ h) in rw (x, y) refl
+    let x : are_below k a ≡ true = below-more n k a l (and_left _ _ h) in
+    let y : are_below k b ≡ true = below-more n k b l (and_right _ _ h) in rw (x, y) refl
 
 pub below-26 : (n : ℕ) (ms : List Mono) → n ≤ 26 → All (λ m. IsTrue (are_below n (tree m))) ms → All (λ m. IsTrue (are_below 26 (tree m))) ms
 below-26 n ms l h = λ k d q. below-more n 26 (tree (get_or ms k d)) l (h k d q)

@@ -10,12 +10,15 @@ use Rattle.alb_poly.proofs.Consequence.{poly_alike, alike_poly, itself'}
 use Rattle.alb_deriv.specs.Derivation.{Line, Sum}
 use Rattle.alb_deriv.specs.Short.{AreFine, IsPlace, IsLineOf, sum_of, IsSumOf}
 use Rattle.alb_deriv.proofs.Appended.{Appends, sum_of-append, sum-append, sum-alike, sum-kept, sum-one, append-sum}
+use Rattle.alb_deriv.proofs.Limited.{HasResidues}
 
--- lines behind `ls`, the last of which has the polynomial `f`
-pub record Closes (p most : ℕ) (target : List ℕ) (fs : List Form) (ls : List Line) (f : Poly) : Type 0 where
+-- lines behind `ls`, not many more than the items `cs`, the last of which has the polynomial `f`
+pub record Closes (p most : ℕ) (target : List ℕ) (fs : List Form) (ls : List Line) (cs : List (ℕ × ℕ)) (f : Poly) : Type 0 where
   pub more : List Line
   pub fine : AreFine p most target fs (ls ++ more)
   pub line : IsLineOf p fs (ls ++ more) (length (ls ++ more)) f
+  pub few : length more ≤ 1 + length cs
+  pub residues : 1 < p → Each (λ c. c.0 < p) cs → Each (HasResidues p) more
 
 each-front : {X : Type 0} (P : X → Type 0) (xs ys : List X) → Each P (xs ++ ys) → Each P xs
 each-front P [] ys a = tt
@@ -39,13 +42,19 @@ module _ (p : ℕ) (pos : 0 < p) (most : ℕ) (target : List ℕ) (fs : List For
       )
 
   -- one line, where the items are few
-  closed : (ls : List Line) (cs : List (ℕ × ℕ)) (f : Poly) → AreFine p most target fs ls → IsSumOf p fs ls cs f → length cs ≤ most → Closes p most target fs ls f
+  closed : (ls : List Line) (cs : List (ℕ × ℕ)) (f : Poly) → AreFine p most target fs ls → IsSumOf p fs ls cs f → length cs ≤ most → Closes p most target fs ls cs f
   closed ls cs f h s l =
       let x = append-sum p pos most target fs ls cs f h s l in
       let n : length ls + 1 ≡ length (ls ++ Sum cs ∷ []) = omega (arith, length-append ls (Sum cs ∷ [])) in
-      record { more = Sum cs ∷ []; fine = x.fine; line = subst (λ k. IsLineOf p fs (ls ++ Sum cs ∷ []) k f) n x.line }
+      record {
+        more = Sum cs ∷ [];
+        fine = x.fine;
+        line = subst (λ k. IsLineOf p fs (ls ++ Sum cs ∷ []) k f) n x.line;
+        few = omega arith;
+        residues = λ big r. (r, tt);
+      }
 
-  chain : 2 ≤ most → (n : ℕ) (ls : List Line) (cs : List (ℕ × ℕ)) (f : Poly) → length cs ≤ n → AreFine p most target fs ls → IsSumOf p fs ls cs f → Closes p most target fs ls f
+  chain : 2 ≤ most → (n : ℕ) (ls : List Line) (cs : List (ℕ × ℕ)) (f : Poly) → length cs ≤ n → AreFine p most target fs ls → IsSumOf p fs ls cs f → Closes p most target fs ls cs f
   chain big zero ls cs f m h s = closed ls cs f h s (omega arith)
   chain big (suc n) ls cs f m h s = elim (cases_lt most (length cs)) [
     | inr l ↦ closed ls cs f h s l
@@ -62,9 +71,11 @@ module _ (p : ℕ) (pos : 0 < p) (most : ℕ) (target : List ℕ) (fs : List For
           more = Sum part ∷ y.more;
           fine = subst (AreFine p most target fs) q y.fine;
           line = subst (λ z. IsLineOf p fs z (length z) f) q y.line;
+          few = omega (arith, y.few);
+          residues = λ one r. let r' : Each (λ c. c.0 < p) (part ++ rest) = subst (Each (λ c. c.0 < p)) (sym e) r in (each-front _ part rest r', y.residues one (one, each-back _ part rest r'));
         })
   ]
 
   -- A combination of lines, of any length, has a chain of sums with at most `most` items each.
-  pub long-sum : 2 ≤ most → (ls : List Line) (cs : List (ℕ × ℕ)) (f : Poly) → AreFine p most target fs ls → IsSumOf p fs ls cs f → Closes p most target fs ls f
+  pub long-sum : 2 ≤ most → (ls : List Line) (cs : List (ℕ × ℕ)) (f : Poly) → AreFine p most target fs ls → IsSumOf p fs ls cs f → Closes p most target fs ls cs f
   long-sum big ls cs f h s = chain big (length cs) ls cs f (omega arith) h s

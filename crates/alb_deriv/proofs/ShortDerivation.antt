@@ -4,7 +4,6 @@ use Rattle.std.specs.Bool.{◌==◌}
 use Rattle.std.specs.List.{flat_map}
 use Rattle.std.proofs.lemmas.List.{length-append}
 use Rattle.std.proofs.lemmas.Bool.{false≢true, eqb-true, not-false}
-use Rattle.std.proofs.lemmas.Bool.Decides.{nat_tests}
 use Rattle.std.proofs.Math.Nat.{mod-eq_of_lt}
 use Rattle.gf_field.proofs.Mod.{same}
 use Rattle.gf_sums.specs.Sums.{coefficient, scale}
@@ -20,6 +19,7 @@ use Rattle.alb_deriv.specs.Derivation.{Line, Instance, Times, Sum, earlier, line
 use Rattle.alb_deriv.specs.Short.{AreFine, value_of, IsLineOf, IsSumOf, IsShortDerivation, HasShortDerivation}
 use Rattle.alb_deriv.proofs.Derived.{none_if, count_same}
 use Rattle.alb_deriv.proofs.Fits.{absent-or, none-any}
+use Rattle.alb_deriv.proofs.Limited.{place_positive}
 use Rattle.alb_deriv.proofs.Lines.{length-values}
 use Rattle.alb_deriv.proofs.Derivable.{consequence-derivation}
 use Rattle.alb_deriv.proofs.Appended.{IsFitting, line-kept, sum-alike, sum-zero, sum-one, append-instance, append-times, append-sum, nothing-fine}
@@ -29,15 +29,6 @@ use Rattle.alb_deriv.proofs.LongSums.{long-sum}
 pub fine-short : {p most : ℕ} {target : List ℕ} {fs : List Form} {g : Poly} {ls : List Line} → AreFine p most target fs ls → IsSamePoly p (last_value fs ls) g →
     IsShortDerivation p most target fs g ls
 fine-short h e = record { derives = record { sound = h.sound; last = e }; lettered = h.lettered; short = h.short }
-
-place_positive : (n k : ℕ) → is_no_place n k ≡ false → (0 < k) × (k ≤ n)
-place_positive n k h = (above n k h, among n k h)
-  where
-    above : (n k : ℕ) → is_no_place n k ≡ false → 0 < k
-    above n k h = grind (arith, nat_tests)
-
-    among : (n k : ℕ) → is_no_place n k ≡ false → k ≤ n
-    among n k h = grind (arith, nat_tests)
 
 -- a polynomial that does not pass the target has no monomial above it
 passes-fitting : (p : ℕ) → 0 < p → (target : List ℕ) (f : Poly) → passes_target p target f ≡ false → IsFitting p target f

@@ -1,5 +1,6 @@
 -- The laws of derivations.
-use Rattle.std.specs.Prelude.{◌≡◌, ◌<◌, ◌≤◌, ◌↔◌, ℕ, List, [], None}
+use Rattle.std.specs.Prelude.{◌≡◌, ◌<◌, ◌≤◌, ◌^◌, ◌↔◌, ℕ, List, [], None, length, sum}
+use Rattle.gf_field.specs.Primes.{IsPrime}
 use Rattle.alb_mono.specs.Listing.{Each}
 use Rattle.alb_poly.specs.Poly.{Poly}
 use Rattle.alb_poly.specs.Instance.{Form}
@@ -7,6 +8,7 @@ use Rattle.alb_poly.specs.Identity.{IsWithin}
 use Rattle.alb_poly.specs.Consequence.{IsConsequence, AreMultilinear}
 use Rattle.alb_deriv.specs.Derivation.{Line, line_values, AreSound, IsDerivation, claim_fault}
 use Rattle.alb_deriv.specs.Short.{HasShortDerivation}
+use Rattle.alb_deriv.specs.Limits.{HasLimitedDerivation}
 
 -- the polynomial of each line is a consequence, where no line has a fault
 abbrev pub LinesAreConsequences : Type 0
@@ -25,3 +27,9 @@ abbrev pub ConsequencesHaveDerivations : Type 0
 ConsequencesHaveDerivations =
     (p most : ℕ) (target : List ℕ) (fs : List Form) (g : Poly) → 0 < p → 2 ≤ most → AreMultilinear fs → IsWithin p target g → IsConsequence p fs g →
     HasShortDerivation p most target fs g
+
+-- Over a prime field, each consequence within a target of degree at most 12 has a derivation that keeps the limits of its text.
+abbrev pub ConsequencesHaveLimitedDerivations : Type 0
+ConsequencesHaveLimitedDerivations =
+    (p : ℕ) (target : List ℕ) (fs : List Form) (g : Poly) → IsPrime p → sum target ≤ 12 → length fs < 10 ^ 18 → AreMultilinear fs → IsWithin p target g → IsConsequence p fs g →
+    HasLimitedDerivation p target fs g

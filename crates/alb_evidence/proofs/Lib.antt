@@ -9,3 +9,4 @@ pub mod WrittenLines
 pub mod WrittenBlock
 pub mod WrittenTypes
 pub mod WrittenTable
+pub mod TextLengths

@@ -1,6 +1,5 @@
 -- How a text is cut into words.
 use Rattle.std.proofs.Common.{◌≡◌, ℕ, zero, suc, ◌+◌, ◌<◌, ◌≤◌, Bool, true, false, List, [], ◌∷◌, length, take, drop, get_or, Some, None, refl, sym, ap, ◌∙◌, subst, arith, inl, inr}
-use Rattle.std.specs.Prelude.{◌&&◌}
 use Rattle.std.specs.List.{list_all}
 use Rattle.std.proofs.Math.ListN.{drop_of_length-le}
 use Rattle.std.proofs.lemmas.List.{drop_more}
@@ -8,10 +7,7 @@ use Rattle.std.proofs.lemmas.Bool.{cases_lt}
 use Rattle.std.proofs.lemmas.Bool.{false≢true}
 use Rattle.alb_lex.specs.Lexing.{is_blank, value_after}
 use Rattle.alb_evidence.specs.Words.{words, ends_word, cut}
-
-pub both : (a b : Bool) → (a && b) ≡ true → (a ≡ true) × (b ≡ true)
-both true b h = (refl, h)
-both false b h = absurd (false≢true h)
+use Rattle.alb_mono.proofs.Both.{both_tests}
 
 pub word_one : (b : ℕ) (bs : List ℕ) → is_blank b ≡ false → ends_word bs ≡ true → words (b ∷ bs) ≡ (b ∷ []) ∷ words bs
 unfolding words
@@ -77,8 +73,8 @@ next-some text rest word behind n m l h r s b f e w d =
 
 pub all-at : (p : ℕ → Bool) (xs : List ℕ) (i : ℕ) → list_all p xs ≡ true → i < length xs → p (get_or xs i 0) ≡ true
 all-at p [] i h l = absurd (omega arith)
-all-at p (x ∷ xs) zero h l = (both _ _ h).0
-all-at p (x ∷ xs) (suc i) h l = all-at p xs i (both _ _ h).1 (omega arith)
+all-at p (x ∷ xs) zero h l = (both_tests _ _ h).0
+all-at p (x ∷ xs) (suc i) h l = all-at p xs i (both_tests _ _ h).1 (omega arith)
 
 value-nothing : (n : ℕ) → value_after n [] ≡ n
 unfolding value_after

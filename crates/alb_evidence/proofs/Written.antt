@@ -18,7 +18,8 @@ use Rattle.alb_lex.proofs.Steps.{value-digit}
 use Rattle.alb_evidence.specs.Words.{words}
 use Rattle.alb_evidence.specs.Block.{digits, number, coefficient, item, is_comment}
 use Rattle.alb_evidence.specs.Texts.{signed_text}
-use Rattle.alb_evidence.proofs.WordLemmas.{both, word_one, word_more, word_blank, no_word}
+use Rattle.alb_evidence.proofs.WordLemmas.{word_one, word_more, word_blank, no_word}
+use Rattle.alb_mono.proofs.Both.{both_tests, both_true}
 
 -- ---- texts without blanks
 
@@ -39,15 +40,11 @@ not_true true h = absurd (false≢true h)
 not_true false h = refl
 
 pub plain-no_blank : (b : ℕ) → is_plain b ≡ true → is_blank b ≡ false
-plain-no_blank b h = not_true (is_blank b) (both _ _ h).0
-
-pub join_true : (a b : Bool) → a ≡ true → b ≡ true → (a && b) ≡ true
-join_true true b h k = k
-join_true false b h k = absurd (false≢true h)
+plain-no_blank b h = not_true (is_blank b) (both_tests _ _ h).0
 
 pub plain-append : (xs ys : List ℕ) → are_plain xs ≡ true → are_plain ys ≡ true → are_plain (xs ++ ys) ≡ true
 plain-append [] ys h k = k
-plain-append (x ∷ xs) ys h k = join_true (is_plain x) (are_plain (xs ++ ys)) (both _ _ h).0 (plain-append xs ys (both _ _ h).1 k)
+plain-append (x ∷ xs) ys h k = both_true (is_plain x) (are_plain (xs ++ ys)) (both_tests _ _ h).0 (plain-append xs ys (both_tests _ _ h).1 k)
 
 -- words with a space before each
 abbrev pub spaced : List (List ℕ) → List ℕ
@@ -59,16 +56,16 @@ AreWords [] = Unit {0}
 AreWords (w ∷ ws) = IsWord w × AreWords ws
 
 words_alone : (b : ℕ) (w : List ℕ) → are_plain (b ∷ w) ≡ true → words (b ∷ w) ≡ (b ∷ w) ∷ []
-words_alone b [] h = word_one b [] (plain-no_blank b (both _ _ h).0) refl ∙ ap (λ ws. (b ∷ []) ∷ ws) no_word
+words_alone b [] h = word_one b [] (plain-no_blank b (both_tests _ _ h).0) refl ∙ ap (λ ws. (b ∷ []) ∷ ws) no_word
 words_alone b (c ∷ w) h =
-    let rest = (both _ _ h).1 in
-    word_more b (c ∷ w) (c ∷ w) [] (plain-no_blank b (both _ _ h).0) (plain-no_blank c (both _ _ rest).0) (words_alone c w rest)
+    let rest = (both_tests _ _ h).1 in
+    word_more b (c ∷ w) (c ∷ w) [] (plain-no_blank b (both_tests _ _ h).0) (plain-no_blank c (both_tests _ _ rest).0) (words_alone c w rest)
 
 words_before : (b : ℕ) (w more : List ℕ) → are_plain (b ∷ w) ≡ true → words ((b ∷ w) ++ 32 ∷ more) ≡ (b ∷ w) ∷ words more
-words_before b [] more h = word_one b (32 ∷ more) (plain-no_blank b (both _ _ h).0) refl ∙ ap (λ ws. (b ∷ []) ∷ ws) (word_blank 32 more refl)
+words_before b [] more h = word_one b (32 ∷ more) (plain-no_blank b (both_tests _ _ h).0) refl ∙ ap (λ ws. (b ∷ []) ∷ ws) (word_blank 32 more refl)
 words_before b (c ∷ w) more h =
-    let rest = (both _ _ h).1 in
-    word_more b ((c ∷ w) ++ 32 ∷ more) (c ∷ w) (words more) (plain-no_blank b (both _ _ h).0) (plain-no_blank c (both _ _ rest).0) (words_before c w more rest)
+    let rest = (both_tests _ _ h).1 in
+    word_more b ((c ∷ w) ++ 32 ∷ more) (c ∷ w) (words more) (plain-no_blank b (both_tests _ _ h).0) (plain-no_blank c (both_tests _ _ rest).0) (words_before c w more rest)
 
 pub words-spaced : (w : List ℕ) (ws : List (List ℕ)) → IsWord w → AreWords ws → words (w ++ spaced ws) ≡ w ∷ ws
 words-spaced [] ws h k = absurd (omega (arith, h.some))
@@ -90,7 +87,7 @@ own = numerals_by_fold _ (search rules) read_on (search rules)
 
 list_all-digits : (ds : List ℕ) → all_digits ds ≡ true → list_all is_ascii_digit ds ≡ true
 list_all-digits [] h = refl
-list_all-digits (c ∷ cs) h = join_true (is_ascii_digit c) (list_all is_ascii_digit cs) (both _ _ h).0 (list_all-digits cs (both _ _ h).1)
+list_all-digits (c ∷ cs) h = both_true (is_ascii_digit c) (list_all is_ascii_digit cs) (both_tests _ _ h).0 (list_all-digits cs (both_tests _ _ h).1)
 
 value-nothing : (n : ℕ) → value_after n [] ≡ n
 unfolding value_after
@@ -98,14 +95,14 @@ value-nothing n = refl
 
 value-digits : (n : ℕ) (ds : List ℕ) → all_digits ds ≡ true → value_after n ds ≡ read_on n ds
 value-digits n [] h = value-nothing n
-value-digits n (c ∷ cs) h = value-digit n c cs (both _ _ h).0 ∙ value-digits (n * 10 + (c - 48)) cs (both _ _ h).1
+value-digits n (c ∷ cs) h = value-digit n c cs (both_tests _ _ h).0 ∙ value-digits (n * 10 + (c - 48)) cs (both_tests _ _ h).1
 
 digit-plain : (b : ℕ) → is_ascii_digit b ≡ true → is_plain b ≡ true
 digit-plain b h = grind (arith, nat_tests)
 
 digits-plain : (ds : List ℕ) → all_digits ds ≡ true → are_plain ds ≡ true
 digits-plain [] h = refl
-digits-plain (c ∷ cs) h = join_true (is_plain c) (are_plain cs) (digit-plain c (both _ _ h).0) (digits-plain cs (both _ _ h).1)
+digits-plain (c ∷ cs) h = both_true (is_plain c) (are_plain cs) (digit-plain c (both_tests _ _ h).0) (digits-plain cs (both_tests _ _ h).1)
 
 not_negative : (b : ℕ) → is_ascii_digit b ≡ true → (b == 45) ≡ false
 not_negative b h = grind (arith, nat_tests)
@@ -136,7 +133,7 @@ digit_no_sign b h = grind (arith, nat_tests)
 
 pub numeral-no_comment : (ds : List ℕ) (n : ℕ) → IsNumeral ds n → is_comment ds ≡ false
 numeral-no_comment [] n h = absurd (omega (arith, h.some))
-numeral-no_comment (c ∷ cs) n h = digit_no_sign c (both _ _ h.digits).0
+numeral-no_comment (c ∷ cs) n h = digit_no_sign c (both_tests _ _ h.digits).0
 
 pub digits-read : (ds : List ℕ) (n : ℕ) → IsNumeral ds n → digits ds ≡ Ok n
 unfolding digits
@@ -145,7 +142,7 @@ digits-read ds n h = rw (list_all-digits ds h.digits, some_length (length ds) h.
 pub number-read : (ds : List ℕ) (n : ℕ) → IsNumeral ds n → number ds ≡ Ok n
 unfolding number
 number-read [] n h = absurd (omega (arith, h.some))
-number-read (c ∷ cs) n h = rw (not_negative c (both _ _ h.digits).0) (digits-read (c ∷ cs) n h)
+number-read (c ∷ cs) n h = rw (not_negative c (both_tests _ _ h.digits).0) (digits-read (c ∷ cs) n h)
 
 -- ---- coefficients
 
@@ -163,7 +160,7 @@ negative-read p c ds h k n = rw (digits-read ds (p - c) n) (ap (λ (x : ℕ). Ok
 positive-read : (p c : ℕ) (ds : List ℕ) → c < p → IsNumeral ds c → coefficient p ds ≡ Ok c
 unfolding coefficient
 positive-read p c [] h n = absurd (omega (arith, n.some))
-positive-read p c (d ∷ ds) h n = rw (not_negative d (both _ _ n.digits).0, digits-read (d ∷ ds) c n) (ap (λ (x : ℕ). Ok x) (mod-eq_of_lt h))
+positive-read p c (d ∷ ds) h n = rw (not_negative d (both_tests _ _ n.digits).0, digits-read (d ∷ ds) c n) (ap (λ (x : ℕ). Ok x) (mod-eq_of_lt h))
 
 above : (p n : ℕ) → nat_lt p n ≡ true → p < n
 above p n h = grind (arith, nat_tests)
@@ -178,7 +175,7 @@ digit-no_star b h = grind (arith, nat_tests)
 
 digits-no_star : (ds : List ℕ) → all_digits ds ≡ true → has_no_star ds ≡ true
 digits-no_star [] h = refl
-digits-no_star (c ∷ cs) h = join_true (not (c == 42)) (has_no_star cs) (digit-no_star c (both _ _ h).0) (digits-no_star cs (both _ _ h).1)
+digits-no_star (c ∷ cs) h = both_true (not (c == 42)) (has_no_star cs) (digit-no_star c (both_tests _ _ h).0) (digits-no_star cs (both_tests _ _ h).1)
 
 -- a written coefficient
 pub record IsSigned (p c : ℕ) (text : List ℕ) : Type 0 where
@@ -204,8 +201,8 @@ signed-is p c h small = signed_of (nat_lt p (2 * c)) p c refl h small
 
 no_star-before : (xs ys : List ℕ) (k : ℕ) → has_no_star xs ≡ true → k < length xs → (get_or (xs ++ ys) k 0 == 42) ≡ false
 no_star-before [] ys k h l = absurd (omega arith)
-no_star-before (x ∷ xs) ys zero h l = not_true (x == 42) (both _ _ h).0
-no_star-before (x ∷ xs) ys (suc k) h l = no_star-before xs ys k (both _ _ h).1 (omega arith)
+no_star-before (x ∷ xs) ys zero h l = not_true (x == 42) (both_tests _ _ h).0
+no_star-before (x ∷ xs) ys (suc k) h l = no_star-before xs ys k (both_tests _ _ h).1 (omega arith)
 
 star-at : (xs ys : List ℕ) → get_or (xs ++ 42 ∷ ys) (length xs) 0 ≡ 42
 star-at [] ys = refl

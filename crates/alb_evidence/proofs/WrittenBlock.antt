@@ -7,14 +7,16 @@ use Rattle.std.proofs.lemmas.Bool.Decides.{nat_tests}
 use Rattle.std.proofs.lemmas.List.{append-nil}
 use Rattle.alb_io.specs.Lines.{HasNoFeed, lines_of, onto_first}
 use Rattle.alb_io.proofs.LineLemmas.{HasNoFeed-append}
+use Rattle.alb_mono.proofs.Both.{both_tests}
 use Rattle.alb_mono.specs.Letters.{AreLetters}
 use Rattle.alb_deriv.specs.Derivation.{Line}
 use Rattle.alb_evidence.specs.Words.{words, is_end, are_end}
 use Rattle.alb_evidence.specs.Block.{Zero, Nothing, Derivation, evidence_from, line_of, say, heading_of, block_of, are_skipped}
 use Rattle.alb_evidence.specs.Reads.{HasNoEnd}
-use Rattle.alb_evidence.specs.Laws.{IsFit, AreFit, ReadsBack, DerivationsReadBack}
+use Rattle.alb_evidence.specs.Accepted.{ReadsBack}
+use Rattle.alb_evidence.specs.Laws.{DerivationsReadBack}
+use Rattle.alb_evidence.specs.Limits.{IsFit, AreFit}
 use Rattle.alb_evidence.specs.Texts.{counted, kind_text, line_text, lines_text}
-use Rattle.alb_evidence.proofs.WordLemmas.{both}
 use Rattle.alb_evidence.proofs.BlockLemmas.{says-next}
 use Rattle.alb_evidence.proofs.Written.{AreWords, numeral-no_comment, spaced, are_plain, is_plain, decimal-numeral, numeral-word}
 use Rattle.alb_evidence.proofs.WrittenLines.{line_bytes, line-words, line-read, head, tail, kind-spaced, kind-words}
@@ -26,7 +28,7 @@ plain_feed b h e = absurd (let q : is_plain 10 ≡ true = subst (λ x. is_plain 
 
 pub plain-no_feed : (w : List ℕ) → are_plain w ≡ true → HasNoFeed w
 plain-no_feed [] h = tt
-plain-no_feed (b ∷ w) h = (plain_feed b (both _ _ h).0, plain-no_feed w (both _ _ h).1)
+plain-no_feed (b ∷ w) h = (plain_feed b (both_tests _ _ h).0, plain-no_feed w (both_tests _ _ h).1)
 
 pub spaced-no_feed : (ws : List (List ℕ)) → AreWords ws → HasNoFeed (spaced ws)
 spaced-no_feed [] h = tt

@@ -1,12 +1,12 @@
 -- The words of a written line say that line.
 use Rattle.std.proofs.Common.{◌≡◌, ℕ, ◌+◌, ◌^◌, ◌<◌, ◌≤◌, Bool, true, false, List, [], ◌∷◌, ◌++◌, length, map, codes, Ok, refl, sym, ap, ◌∙◌, arith, length-append}
-use Rattle.std.specs.Prelude.{◌&&◌, ◌==◌, slice_index}
+use Rattle.std.specs.Prelude.{◌==◌, slice_index}
 use Rattle.std.specs.List.{flat_map}
 use Rattle.std.specs.Fmt.{decimal}
-use Rattle.std.proofs.lemmas.Bool.{false≢true}
 use Rattle.std.proofs.lemmas.Bool.Decides.{nat_tests}
 use Rattle.std.proofs.lemmas.List.{append-nil}
 use Rattle.std.proofs.lemmas.List.Concat.{flat_map-cons}
+use Rattle.alb_mono.proofs.Both.{both_tests, both_true}
 use Rattle.alb_mono.specs.Letters.{AreLetters}
 use Rattle.alb_mono.specs.Tree.{Tree, leaf, node, degree, are_below}
 use Rattle.alb_mono.specs.declared.side.Side.{Side}
@@ -15,11 +15,11 @@ use Rattle.alb_print.specs.Text.{mono_text, named}
 use Rattle.alb_print.proofs.Monomials.{below_from}
 use Rattle.alb_print.proofs.Spellings.{monomials-spell_themselves}
 use Rattle.alb_deriv.specs.Derivation.{Line, Instance, Times, Sum}
+use Rattle.alb_deriv.specs.Limits.{AreMonos, AreItems}
 use Rattle.alb_evidence.specs.Words.{words}
 use Rattle.alb_evidence.specs.Block.{mono, monos, mono_of_tokens, spelled, items, instance_of, times_of, sum_of, kind_of, numbered, line_of}
-use Rattle.alb_evidence.specs.Laws.{AreMonos, AreItems, IsFit}
+use Rattle.alb_evidence.specs.Limits.{IsFit}
 use Rattle.alb_evidence.specs.Texts.{spaced_mono, side_text, item_text, kind_text}
-use Rattle.alb_evidence.proofs.WordLemmas.{both}
 use Rattle.alb_evidence.proofs.Written.{IsWord, AreWords, spaced, are_plain, is_plain, plain-append, decimal-numeral, numeral-word, number-read, item_word, item-read, item-is_word, words-spaced}
 
 -- ---- monomials
@@ -32,20 +32,16 @@ mono-read letters m are below small =
 pub letter-plain : (b : ℕ) → 97 ≤ b → b ≤ 122 → is_plain b ≡ true
 letter-plain b low high = grind (arith, nat_tests)
 
-join_true : (a b : Bool) → a ≡ true → b ≡ true → (a && b) ≡ true
-join_true true b h k = k
-join_true false b h k = absurd (false≢true h)
-
 mono-plain : (letters : List ℕ) (inner : Bool) (m : Tree) → AreLetters letters → are_below (length letters) m ≡ true → are_plain (mono_text letters inner m) ≡ true
 mono-plain letters inner (leaf k) are below =
     let l = below_from k (length letters) below in
-    join_true (is_plain (slice_index letters k)) true (letter-plain (slice_index letters k) (are.low k l) (are.high k l)) refl
+    both_true (is_plain (slice_index letters k)) true (letter-plain (slice_index letters k) (are.low k l) (are.high k l)) refl
 mono-plain letters true (node l r) are below =
-    let b = both (are_below (length letters) l) (are_below (length letters) r) below in
+    let b = both_tests (are_below (length letters) l) (are_below (length letters) r) below in
     plain-append (mono_text letters true l ++ mono_text letters true r) (41 ∷ [])
     (plain-append (mono_text letters true l) (mono_text letters true r) (mono-plain letters true l are b.0) (mono-plain letters true r are b.1)) refl
 mono-plain letters false (node l r) are below =
-    let b = both (are_below (length letters) l) (are_below (length letters) r) below in
+    let b = both_tests (are_below (length letters) l) (are_below (length letters) r) below in
     plain-append (mono_text letters true l) (mono_text letters true r) (mono-plain letters true l are b.0) (mono-plain letters true r are b.1)
 
 mono-some : (letters : List ℕ) (inner : Bool) (m : Tree) → 0 < length (mono_text letters inner m)

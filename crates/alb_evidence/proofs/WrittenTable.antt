@@ -9,6 +9,7 @@ use Rattle.std.proofs.lemmas.List.{append-nil, length-replicate}
 use Rattle.std.proofs.lemmas.List.Concat.{flat_map-cons}
 use Rattle.alb_io.specs.Lines.{HasNoFeed, lines_of}
 use Rattle.alb_io.proofs.LineLemmas.{HasNoFeed-append}
+use Rattle.alb_mono.proofs.Both.{both_true}
 use Rattle.alb_mono.specs.Letters.{AreLetters}
 use Rattle.alb_print.specs.Text.{type_text}
 use Rattle.alb_check.specs.Raw.{Raw}
@@ -16,10 +17,12 @@ use Rattle.alb_check.specs.declared.raw.RawEntry.{RawEntry}
 use Rattle.alb_evidence.specs.Words.{words, is_end}
 use Rattle.alb_evidence.specs.Block.{NotZero, Nothing, Table, evidence_from, say, heading_of, block_of, table_of, table_line, row_of, element_of, generator_of, entry_of, type_of, letter_number, padded, are_skipped, is_comment}
 use Rattle.alb_evidence.specs.Reads.{HasNoEnd}
-use Rattle.alb_evidence.specs.Laws.{AreTypes, ArePlaces, AreEntries, IsTableFit, ReadsBack, TablesReadBack}
+use Rattle.alb_check.specs.Limits.{AreTypes, ArePlaces, AreEntries, IsTableFit}
+use Rattle.alb_evidence.specs.Accepted.{ReadsBack}
+use Rattle.alb_evidence.specs.Laws.{TablesReadBack}
 use Rattle.alb_evidence.specs.Texts.{counted, signed_text, typed, element_text, generator_text, entry_text, table_text}
 use Rattle.alb_evidence.proofs.BlockLemmas.{says-next}
-use Rattle.alb_evidence.proofs.Written.{IsWord, AreWords, spaced, is_plain, join_true, decimal-numeral, numeral-word, number-read, signed-is, words-spaced}
+use Rattle.alb_evidence.proofs.Written.{IsWord, AreWords, spaced, is_plain, decimal-numeral, numeral-word, number-read, signed-is, words-spaced}
 use Rattle.alb_evidence.proofs.WrittenLines.{numbered-read, letter-plain}
 use Rattle.alb_evidence.proofs.WrittenBlock.{line-first, ends, plain-no_feed, spaced-no_feed}
 use Rattle.alb_evidence.proofs.WrittenTypes.{type-read, type-is_word}
@@ -215,7 +218,7 @@ module _ (p : ℕ) (letters : List ℕ) where
         let x = slice_index letters g in
         let n = decimal-numeral e k in
         let w : IsWord (codes "generator") = record { some = omega arith; plain = refl } in
-        let letter : IsWord (slice_index letters g ∷ []) = record { some = omega arith; plain = join_true (is_plain (slice_index letters g)) true (letter-plain (slice_index letters g) (are.low g l) (are.high g l)) refl } in
+        let letter : IsWord (slice_index letters g ∷ []) = record { some = omega arith; plain = both_true (is_plain (slice_index letters g)) true (letter-plain (slice_index letters g) (are.low g l) (are.high g l)) refl } in
         let ws : AreWords ((slice_index letters g ∷ []) ∷ decimal e ∷ []) = (letter, (numeral-word (decimal e) e n, tt)) in
         let short : length (codes "generator" ++ spaced ((slice_index letters g ∷ []) ∷ decimal e ∷ [])) ≤ 65536 = omega (arith, n.few, length-append (decimal e) []) in
         Section-row (generator_text letters g (Some e)) (codes "generator" ++ spaced ((slice_index letters g ∷ []) ∷ decimal e ∷ [])) (codes "generator" ∷ (slice_index letters g ∷ []) ∷ decimal e ∷ [])

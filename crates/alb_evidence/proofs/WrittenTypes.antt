@@ -15,7 +15,7 @@ use Rattle.alb_print.proofs.Numbers.{spelled-number}
 use Rattle.alb_print.proofs.Spelled.{Spelled, spelled-one, spelled-both, spelled-all}
 use Rattle.alb_evidence.specs.Block as value
 use Rattle.alb_evidence.specs.Block.{later_counts, counts, counts_of_tokens, onto_counts, is_open, is_close, count_of, type_of, or_bad}
-use Rattle.alb_evidence.specs.Laws.{AreCounts}
+use Rattle.alb_check.specs.Limits.{AreCounts}
 use Rattle.alb_evidence.proofs.Written.{IsWord, are_plain, plain-append, decimal-numeral, numeral-word}
 
 -- what stands behind the first count

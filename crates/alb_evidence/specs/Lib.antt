@@ -6,4 +6,6 @@ pub mod Views
 pub mod Reads
 pub mod Inside
 pub mod Texts
+pub mod Limits
+pub mod Accepted
 pub mod Laws

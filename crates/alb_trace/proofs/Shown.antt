@@ -1,5 +1,5 @@
 -- Each answer is shown by something.
-use Rattle.std.proofs.Common.{◌≡◌, ℕ, ◌<◌, ◌≤◌, Bool, true, false, List, length, Option, Some, None, refl, sym, subst, arith, inl, inr, nat_lt}
+use Rattle.std.proofs.Common.{◌≡◌, ℕ, ◌<◌, ◌≤◌, ◌^◌, Bool, true, false, List, length, Option, Some, None, refl, sym, subst, arith, inl, inr, nat_lt}
 use Rattle.std.proofs.lemmas.Bool.Decides.{nat_tests}
 use Rattle.gf_field.proofs.Mod.{◌⊙◌}
 use Rattle.gf_field.proofs.Table.{IsPrime-from_table}
@@ -15,9 +15,10 @@ use Rattle.alb_mono.proofs.Leaves.{below_from_test}
 use Rattle.alb_poly.proofs.Multilinear.{each-from}
 use Rattle.gf_sums.proofs.Alike.{Alike, turned}
 use Rattle.alb_deriv.proofs.Judged.{derivation-no_fault}
-use Rattle.alb_deriv.proofs.ShortDerivation.{consequence-short_derivation}
+use Rattle.alb_deriv.proofs.Bounded.{limited-derivation}
 use Rattle.alb_check.specs.SubTable.{sub_table, IsFirstType}
 use Rattle.alb_check.proofs.FirstPart.{sub-found}
+use Rattle.alb_check.proofs.FitLemmas.{shaped-fit}
 use Rattle.alb_check.proofs.SubRefutes.{sub-refutes}
 use Rattle.alb_check.proofs.SubShape.{sub-raw}
 use Rattle.alb_table.specs.Leading.{IsZeroAt}
@@ -66,14 +67,18 @@ module _ (fs : List Form) (t : Table) (multi : AreMultilinear fs) (high : AreHig
   -- the table up to the first type of the normal form is a counterexample
   pub counter-table : (g f : Poly) (top : List ℕ) → Each (λ s. IsWithin t.target t.degree s.1) g → IsNormalForm t.p fs g f → IsTypeTo t.target t.degree top → IsFirstType t.p top f
       → IsCounterTable fs t g f (sub_table t top)
-  counter-table g f top within is ty first = record {
-    top = top;
-    type = ty;
-    first = first;
-    is = refl;
-    over = sub-raw t top tab ty.counts;
-    refutes = sub-refutes fs t g top multi high tab right.right within ty (first-alike t.p top f (poly_value (mono_entry t.parts) g) (turned (value-normal_form g f within is)) first);
-  }
+  counter-table g f top within is ty first =
+      let raw = sub-raw t top tab ty.counts in
+      let refutes = sub-refutes fs t g top multi high tab right.right within ty (first-alike t.p top f (poly_value (mono_entry t.parts) g) (turned (value-normal_form g f within is)) first) in
+      record {
+        top = top;
+        type = ty;
+        first = first;
+        is = refl;
+        over = raw;
+        fit = shaped-fit t.p t.target (sub_table t top) tab.goal.small raw refutes.0.shape;
+        refutes = refutes;
+      }
 
   counter-found : (g f : Poly) → Each (λ s. IsWithin t.target t.degree s.1) g → (IsConsequence t.p fs g → ⊥) → IsNormalForm t.p fs g f → (s : Shown) × Shows fs t g (NotZero f) s
   counter-found g f within none is =
@@ -86,30 +91,30 @@ module _ (fs : List Form) (t : Table) (multi : AreMultilinear fs) (high : AreHig
       ]
 
   -- within the target a consequence has a derivation
-  derivation-found : (g : Poly) → Each (λ s. IsWithin t.target t.degree s.1) g → IsConsequence t.p fs g → (s : Shown) × Shows fs t g Zero s
-  derivation-found g within c =
+  derivation-found : length fs < 10 ^ 18 → (g : Poly) → Each (λ s. IsWithin t.target t.degree s.1) g → IsConsequence t.p fs g → (s : Shown) × Shows fs t g Zero s
+  derivation-found few g within c =
       let m : Each (λ s. IsAtMost t.target s.1) g = each-from (λ s. IsWithin t.target t.degree s.1) (λ s. IsAtMost t.target s.1) g
       (λ s k. record { below = below_from_test (length t.target) s.1 k.below; counts = k.type }) within in
-      let d = consequence-short_derivation t.p pos 64 (omega arith) t.target fs g multi (IsWithin-terms t.p t.target g pos m) c in
+      let d = limited-derivation t.p (IsPrime-from_table t.p tab.field) t.target fs multi tab.goal.small few g (IsWithin-terms t.p t.target g pos m) c in
       (ByLines d.lines, d.are)
 
-  shown-within : (g : Poly) (a : Answer) → Each (λ s. IsWithin t.target t.degree s.1) g → AnswersWithin t.p fs g a → (s : Shown) × Shows fs t g a s
-  shown-within g Zero within is = derivation-found g within is
-  shown-within g (NotZero f) within is = counter-found g f within is.0 is.1
-  shown-within g (NotBuilt n) within is = absurd is
-  shown-within g (OutOfType m) within is = absurd is
+  shown-within : length fs < 10 ^ 18 → (g : Poly) (a : Answer) → Each (λ s. IsWithin t.target t.degree s.1) g → AnswersWithin t.p fs g a → (s : Shown) × Shows fs t g a s
+  shown-within few g Zero within is = derivation-found few g within is
+  shown-within few g (NotZero f) within is = counter-found g f within is.0 is.1
+  shown-within few g (NotBuilt n) within is = absurd is
+  shown-within few g (OutOfType m) within is = absurd is
 
-  shown-fitting : (g : Poly) (a : Answer) (above : Bool) → misfit t.target g ≡ None → nat_lt t.degree (greatest_degree g) ≡ above → AnswersFitting above t.p fs g a → (s : Shown) × Shows fs t g a s
-  shown-fitting g a true fit e is = (ByNothing, subst (λ b. Shows fs t g b ByNothing) (sym is) tt)
-  shown-fitting g a false fit e is = let l : greatest_degree g ≤ t.degree = grind (arith, nat_tests) in shown-within g a (all-within t.target t.degree g fit l) is
+  shown-fitting : length fs < 10 ^ 18 → (g : Poly) (a : Answer) (above : Bool) → misfit t.target g ≡ None → nat_lt t.degree (greatest_degree g) ≡ above → AnswersFitting above t.p fs g a → (s : Shown) × Shows fs t g a s
+  shown-fitting few g a true fit e is = (ByNothing, subst (λ b. Shows fs t g b ByNothing) (sym is) tt)
+  shown-fitting few g a false fit e is = let l : greatest_degree g ≤ t.degree = grind (arith, nat_tests) in shown-within few g a (all-within t.target t.degree g fit l) is
 
-  shown-unless : (g : Poly) (a : Answer) (o : Option Tree) → misfit t.target g ≡ o → AnswersUnless o t.p fs t.degree g a → (s : Shown) × Shows fs t g a s
-  shown-unless g a None fit is = shown-fitting g a (nat_lt t.degree (greatest_degree g)) fit refl is
-  shown-unless g a (Some m) fit is = (ByNothing, subst (λ b. Shows fs t g b ByNothing) (sym is) tt)
+  shown-unless : length fs < 10 ^ 18 → (g : Poly) (a : Answer) (o : Option Tree) → misfit t.target g ≡ o → AnswersUnless o t.p fs t.degree g a → (s : Shown) × Shows fs t g a s
+  shown-unless few g a None fit is = shown-fitting few g a (nat_lt t.degree (greatest_degree g)) fit refl is
+  shown-unless few g a (Some m) fit is = (ByNothing, subst (λ b. Shows fs t g b ByNothing) (sym is) tt)
 
 -- EACH ANSWER IS SHOWN
 pub each-is-shown : EachIsShown
-each-is-shown fs t g a multi high tab right is = shown-unless fs t multi high tab right g a (misfit t.target g) refl is
+each-is-shown fs t g a multi high few tab right is = shown-unless fs t multi high tab right few g a (misfit t.target g) refl is
 
 -- ---- what is shown is accepted
 

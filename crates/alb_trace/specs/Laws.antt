@@ -1,5 +1,5 @@
 -- Laws that functions of `laws` state.
-use Rattle.std.specs.Prelude.{◌≡◌, ◌<◌, List, None}
+use Rattle.std.specs.Prelude.{◌≡◌, ◌<◌, ◌^◌, List, length, None}
 use Rattle.alb_poly.specs.Poly.{Poly}
 use Rattle.alb_poly.specs.Instance.{Form}
 use Rattle.alb_poly.specs.Consequence.{AreMultilinear}
@@ -12,9 +12,9 @@ use Rattle.alb_check.specs.Verdict.{IsVerdict}
 use Rattle.alb_check.specs.Verdict.Verdict.{Refuted}
 use Rattle.alb_trace.specs.Proof.{Shown, ByLines, ByTable, ByNothing, Shows}
 
--- each answer to a question about a polynomial, by a right table, is shown by something
+-- each answer to a question about a polynomial, by a right table of forms that can be numbered, is shown by something
 abbrev pub EachIsShown : Type 0
-EachIsShown = (fs : List Form) (t : Table) (g : Poly) (a : Answer) → AreMultilinear fs → AreHigh fs → IsTable t → IsRightTable fs t
+EachIsShown = (fs : List Form) (t : Table) (g : Poly) (a : Answer) → AreMultilinear fs → AreHigh fs → length fs < 10 ^ 18 → IsTable t → IsRightTable fs t
     → IsAnswer t.p fs t.target t.degree g a → (s : Shown) × Shows fs t g a s
 
 -- the judges of evidence accept what is shown

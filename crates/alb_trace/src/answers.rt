@@ -1,5 +1,5 @@
 //! The derivations that are asked for, each from an empty trace.
-ghost use Rattle.std.specs.Prelude.{◌≡◌, ◌<◌, ℕ, All, IfOk, List, OnOk, length};
+ghost use Rattle.std.specs.Prelude.{◌≡◌, ◌<◌, ◌^◌, ℕ, All, IfOk, List, OnOk, length};
 ghost use Rattle.alb_mono.specs.Mono.{tree};
 ghost use Rattle.alb_poly.specs.Instance.{Form};
 ghost use Rattle.alb_poly.specs.Poly.{Poly, AreResidues};
@@ -42,21 +42,30 @@ fn empty_trace(alloc: Global, tables: &Tables) -> Trace
     }
 }
 
+// The lines as they are. There are fewer than 10^18, since they stand in memory.
+fn numbered(lines: Vec<Line>) -> Vec<Line>
+    ensures same { result.items ≡ lines.items }
+    ensures few { length result.items < 10 ^ 18 }
+{
+    prove!(lines.as_slice().len() < 1_000_000_000_000_000_000);
+    lines
+}
+
 // The lines of a trace, the one with the polynomial at the end; no lines where the polynomial is zero.
 fn ended(alloc: Global, trace: Trace, last: Option<u64>) -> Result<Vec<Line>, NoMemory>
-    ensures { (fs : List Form) (t : Table) (old : Trace) (f : Poly) → Derives fs t old trace last f → IfOk result (λ v. AreLinesFor fs t f v.items) }
+    ensures { (fs : List Form) (t : Table) (old : Trace) (f : Poly) → length fs < 10 ^ 18 → Derives fs t old trace last f → IfOk result (λ v. AreLinesFor fs t f v.items) }
 {
     let Some(k) = last else {
         return Ok(Vec::new(alloc));
     };
     let mut lines = trace.lines;
     if k == lines.len() as u64 {
-        return Ok(lines);
+        return Ok(numbered(lines));
     }
     let mut items = Vec::new(alloc);
     items.push((1, k))?;
     lines.push(Line::Sum(items))?;
-    Ok(lines)
+    Ok(numbered(lines))
 }
 
 /// A derivation of the product of two basis elements, less its entry.

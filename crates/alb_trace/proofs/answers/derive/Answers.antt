@@ -10,6 +10,7 @@ use Rattle.alb_table.specs.Right.{IsWithin}
 use Rattle.alb_trace.specs.Given.{IsRightFor}
 use Rattle.alb_trace.specs.Trace.{lines_of, mono_less}
 use Rattle.alb_trace.proofs.Asked.{answered-within, answered-sum}
+use Rattle.alb_trace.proofs.Ends.{rules-few}
 use Rattle.alb_trace.proofs.ProductLemmas.{pushes-sum, pushes-residues}
 use Rattle.alb_trace.proofs.answers.derive.Goals as goal
 
@@ -33,4 +34,4 @@ returns c =
     let d = c.in_ok-line.ensures.derives (forms c.args.rules.now) c.args.tables.now c.args.g.now c.in_ok-push_terms.ensures.trace
     (subst (λ (xs : List (ℕ × ℕ)). All (λ (x : ℕ × ℕ). x.0 < c.args.tables.now.p) xs) (sym e) a)
     (subst (λ (xs : List (ℕ × ℕ)). IsSumOf c.args.tables.now.p (forms c.args.rules.now) (lines_of c.push_terms.new.trace) xs c.args.g.now) (sym e) z) in
-    c.ended.ensures (forms c.args.rules.now) c.args.tables.now c.push_terms.new.trace c.args.g.now d
+    c.ended.ensures (forms c.args.rules.now) c.args.tables.now c.push_terms.new.trace c.args.g.now (rules-few c.args.rules.now c.args.tables.now c.requires.rules) d
