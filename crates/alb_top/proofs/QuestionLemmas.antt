@@ -1,14 +1,13 @@
 -- What the answer to a question means, and that each question has one.
-use Rattle.std.proofs.Common.{arith, ◌≡◌, ℕ, ◌<◌, Bool, true, false, List, [], ◌∷◌, length, map, sum, Option, Some, None, refl, sym, ap, ◌∙◌, subst, nat_lt}
-use Rattle.std.specs.Prelude.{IsTrue, All, if◌then◌else◌}
+use Rattle.std.proofs.Common.{arith, ◌≡◌, ℕ, ◌<◌, Bool, true, false, List, [], ◌∷◌, length, map, sum, Option, Some, None, refl, sym, subst, nat_lt}
+use Rattle.std.specs.Prelude.{if◌then◌else◌}
 use Rattle.gf_field.proofs.Table.{IsPrime-from_table}
 use Rattle.alb_mono.specs.Listing.{Each}
-use Rattle.alb_mono.specs.Tree.{Tree, are_below, type_of, type_le}
+use Rattle.alb_mono.specs.Tree.{Tree, type_le}
 use Rattle.alb_mono.proofs.Both.{and_left, and_right}
 use Rattle.alb_mono.proofs.Leaves.{below_from_test}
 use Rattle.alb_poly.specs.Poly.{Poly, greatest_degree}
-use Rattle.alb_poly.specs.Instance.{Form}
-use Rattle.alb_poly.specs.Identity.{IsAtMost, IsWithin}
+use Rattle.alb_poly.specs.Identity.{IsAtMost}
 use Rattle.alb_poly.specs.Consequence.{IsConsequence}
 use Rattle.alb_poly.specs.Textbook.{IsTextConsequence}
 use Rattle.alb_problem.specs.Builder.{Builder, with_degrees}

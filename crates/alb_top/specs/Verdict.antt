@@ -16,7 +16,7 @@ use Rattle.alb_table.specs.Leading.{difference}
 use Rattle.alb_problem.specs.Satisfied.{AreSameVectors}
 use Rattle.alb_script.specs.Refusals.{line_of}
 use Rattle.alb_query.specs.Answer.{Answer, Zero, NotZero, NotBuilt, OutOfType}
-use Rattle.alb_trace.specs.Proof.{Shown, ByLines, ByTable, ByNothing}
+use Rattle.alb_trace.specs.Proof.{Shown, ByTable}
 
 -- the claim is zero, or it is not, or the evidence is rejected, with this line
 pub data Verdict : Type 0 where

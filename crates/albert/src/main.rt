@@ -1,5 +1,7 @@
 //! Makes the real input and output, and calls the top call.
 #![tactic(auto)]
+ghost use Rattle.std.specs.Prelude.{◌≡◌, ◌≢◌, ◌↔◌};
+ghost use Rattle.std.specs.IoError.{error_kind};
 
 ghost use Rattle.std.specs.Prelude.{◌≡◌, ◌≢◌, ◌↔◌};
 ghost use Rattle.std.specs.IoError.{error_kind};

@@ -1,4 +1,4 @@
-use Rattle.std.proofs.Common.{◌≡◌, [], ◌∷◌, List, ℕ, Option, Some, refl, subst, sym, ◌∙◌}
+use Rattle.std.proofs.Common.{◌≡◌, [], ◌∷◌, List, ℕ, Option, Some, refl, subst}
 use Rattle.alb_top.specs.View.{state, AsksFor, answer}
 use Rattle.alb_top.proofs.TurnLemmas.{answers-line, step-command, commands-long}
 use Rattle.alb_top.proofs.turn.take_turn.Goals as goal

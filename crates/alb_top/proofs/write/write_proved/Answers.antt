@@ -1,4 +1,3 @@
-use Rattle.std.proofs.Common.{◌++◌}
 use Rattle.std.proofs.lemmas.Result.{err_from_is_err_and}
 use Rattle.alb_io.proofs.Fronts.{AppendsFront-more, Puts-then}
 use Rattle.alb_answer.specs.Answers.{answer_line}
