@@ -14,3 +14,4 @@ pub mod WriteLemmas
 pub mod EvidenceLemmas
 pub mod UniqueCheck
 pub mod UniqueBatch
+pub mod AcceptedLemmas
