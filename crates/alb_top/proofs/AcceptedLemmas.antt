@@ -8,6 +8,7 @@ use Rattle.alb_poly.specs.Poly.{Poly}
 use Rattle.alb_poly.specs.Instance as instances
 use Rattle.alb_problem.specs.Builder.{Builder}
 use Rattle.alb_syntax.proofs.Kept.{table-small}
+use Rattle.alb_table.specs.RightFor.{IsRightFor}
 use Rattle.alb_table.specs.Table.{Table, IsTarget}
 use Rattle.alb_table.proofs.FirstLemmas.{few_generators}
 use Rattle.alb_check.specs.Verdict as tables
@@ -25,7 +26,7 @@ use Rattle.alb_evidence.specs.Texts.{lines_text, table_text}
 use Rattle.alb_evidence.proofs.TextLengths.{proofs-accepted}
 use Rattle.alb_evidence.specs.Words.{words, is_end, are_end}
 use Rattle.alb_top.specs.Verdict.{Verdict, AcceptedZero, AcceptedNotZero, IsVerdict, derived, verdict_text}
-use Rattle.alb_top.specs.Script.{State, Claimed, Reply, Judged, start, Step, IsTableOf, AsksTable, Obeys, ObeysLine, Commands, AnswersIn, AnswersLine, OfBlock, Judges, asked_of, letters_of, total_of, forms_of, shown_text, text_of, shut, tell}
+use Rattle.alb_top.specs.Script.{State, Claimed, Reply, Judged, start, Step, rules_of, AsksTable, Obeys, ObeysLine, Commands, AnswersIn, AnswersLine, OfBlock, Judges, asked_of, letters_of, total_of, forms_of, shown_text, text_of, shut, tell}
 use Rattle.alb_top.specs.Sound.{IsSound, HasRight}
 use Rattle.alb_top.specs.View.{IsTimely}
 use Rattle.alb_top.specs.Going.{claimed}
@@ -150,12 +151,12 @@ obeyed s new line text a asks st =
     let is : ObeysLine s line (asked_of s line) st.reply new = subst (λ b. Commands b s line st.reply new) short free in
     (st.reply, subst (λ (r : Result Asked CommandError). ObeysLine s line r st.reply new) asks.asked is, st.told)
 
-module _ (old : State) (g : Poly) (t : Table) (right : IsTableOf old.problem t) where
+module _ (old : State) (g : Poly) (t : Table) (right : IsRightFor (rules_of old.problem) t) where
   abbrev b : Builder
   b = old.problem
 
   here : (e : block.Evidence) → IsProofOf t.p t.target (forms_of b) g e → IsProofOf b.field b.counts (forms_of b) g e
-  here e h = subst (λ p. IsProofOf p b.counts (forms_of b) g e) right.field (subst (λ target. IsProofOf t.p target (forms_of b) g e) right.goal h)
+  here e h = subst (λ p. IsProofOf p b.counts (forms_of b) g e) right.field (subst (λ target. IsProofOf t.p target (forms_of b) g e) right.target h)
 
   accepts-shown : (a : Answer) (x : Shown) → Shows (forms_of b) t g a x → (s : State) (claim : List ℕ) → IsReached form.Check s → s.problem ≡ b → s.built ≡ true → Asks s claim (Claim g)
       → AcceptsAs a s (claim ∷ lines_of (shown_text t.p b.letters x))

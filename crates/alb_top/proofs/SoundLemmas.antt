@@ -233,14 +233,14 @@ unless-some None old is h = builds_by-some old.form old refl h is
 unless-some (Some r) old is h = (RefusedLine (stated_text r), (tell (RefusedLine (stated_text r)) old).1, refl, told-sound old (RefusedLine (stated_text r)) h)
 
 -- behind `build` a script of a form with questions has its table
-right-table : (f : Form) (built : Bool) (b : Builder) (o : Option Table) → belongs f word.Polynomial ≡ true → built ≡ true → HasTable f built b o → HasRight b o
+pub right-table : (f : Form) (built : Bool) (b : Builder) (o : Option Table) → belongs f word.Polynomial ≡ true → built ≡ true → HasTable f built b o → HasRight b o
 right-table form.Check built b o is h t = absurd (cc)
 right-table form.Batch true b o is h t = t
 right-table form.Batch false b o is h t = absurd (cc)
 right-table form.Session true b o is h t = t
 right-table form.Session false b o is h t = absurd (cc)
 
-prove-form : (f : Form) → belongs f word.Prove ≡ true → belongs f word.Polynomial ≡ true
+pub prove-form : (f : Form) → belongs f word.Prove ≡ true → belongs f word.Polynomial ≡ true
 prove-form form.Check is = absurd (cc)
 prove-form form.Batch is = refl
 prove-form form.Session is = refl
@@ -355,7 +355,7 @@ pub evidence-read : (b : Builder) (ls : List ℕ) (lines : List (List ℕ)) (has
 evidence-read b ls lines has_end field named =
     is_read b (evidence_of b.field ls lines has_end) (λ t is. subst (λ n. IsRaw b.field n t) named (evidence-raw b.field ls lines has_end t (table-positive b.field field) is))
 
-read-evidence : (s : State) (lines : List (List ℕ)) (has_end : Bool) → IsSound s → s.built ≡ true → IsRead s.problem (evidence_of s.problem.field (letters_of s) lines has_end)
+pub read-evidence : (s : State) (lines : List (List ℕ)) (has_end : Bool) → IsSound s → s.built ≡ true → IsRead s.problem (evidence_of s.problem.field (letters_of s) lines has_end)
 read-evidence s lines has_end h built =
     evidence-read s.problem (letters_of s) lines has_end h.problem.field (ap length (letters-built s.built s.problem.letters built) ∙ h.problem.generators.named)
 
