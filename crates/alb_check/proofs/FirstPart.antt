@@ -1,5 +1,5 @@
 -- The value in the sub-table up to the first type of the normal form.
-use Rattle.std.proofs.Common.{◌≡◌, ℕ, ◌%◌, ◌<◌, ◌≤◌, ◌⊎◌, Bool, true, false, not, List, [], ◌∷◌, length, sum, sym, refl, ap, ◌∙◌, subst, arith, inl, inr}
+use Rattle.std.proofs.Common.{◌&&◌, ◌≡◌, ℕ, ◌%◌, ◌<◌, ◌≤◌, ◌⊎◌, Bool, true, false, not, List, [], ◌∷◌, length, sum, sym, refl, ap, ◌∙◌, subst, arith, inl, inr}
 use Rattle.std.specs.Bool.{◌==◌}
 use Rattle.std.specs.Prelude.{nat_le}
 use Rattle.std.specs.Ordering.{nat_cmp, on, flip_args}
@@ -18,12 +18,12 @@ use Rattle.alb_mono.specs.Tree.{Tree, type_of, type_le, are_below, cmp_types, sa
 use Rattle.alb_mono.proofs.Both.{and_left, and_right}
 use Rattle.alb_mono.proofs.Leaves.{length-type_of}
 use Rattle.alb_mono.proofs.Order.{cmp_types_total}
-use Rattle.alb_poly.specs.Poly.{Poly, list_eq, part}
+use Rattle.alb_poly.specs.Poly.{Poly, list_eq, has_type, part}
 use Rattle.alb_poly.specs.Instance.{Form}
 use Rattle.alb_poly.specs.Consequence.{AreMultilinear}
 use Rattle.alb_poly.proofs.Multilinear.{each-from, sum_cons}
+use Rattle.alb_poly.proofs.Types.{has_type-is}
 use Rattle.alb_poly.proofs.Consequence.{itself', tree_tells, alike_poly}
-use Rattle.alb_linear.proofs.IdentityLemmas.{list_eq-sound}
 use Rattle.alb_table.specs.Leading.{IsZeroAt}
 use Rattle.alb_table.specs.Right.{poly_value, IsTypeTo, IsWithin, IsBasisTo}
 use Rattle.alb_table.proofs.Bases.{IsTable}
@@ -67,26 +67,26 @@ earlier-type xs ys e h n =
 
 -- the part of what passes is the part of the type, where this is the first
 pub first-part : (p : ℕ) (top : List ℕ) (f : Poly) → IsFirstType p top f → Each (λ t. are_below (length top) t.1 ≡ true) f → Alike p (keep (passes_type top) f) (part top f)
-first-part p top f h below = alike_poly (λ x. elim (cases_Bool (has_type x)) [
-  | inl y ↦ (elim (each-coefficient same_tree tree_tells (λ m. are_below (length top) m ≡ true) f x below) [
-    | inl b ↦ same (coefficient-kept same_tree tree_tells (passes_type top) f x (of_type-passes x b y) ∙ sym (coefficient-kept same_tree tree_tells has_type f x y))
-    | inr z ↦ kept_zero (passes_type top) x (same z) ⊙ back (kept_zero has_type x (same z))
-  ])
+first-part p top f h below = alike_poly (λ x. elim (cases_Bool (has_type top x)) [
+  | inl y ↦ same (coefficient-kept same_tree tree_tells (passes_type top) f x (of_type-passes x y) ∙ sym (coefficient-kept same_tree tree_tells (has_type top) f x y))
   | inr n ↦ (elim (cases_Bool (passes_type top x)) [
-    | inr m ↦ gone (passes_type top) x m ⊙ back (gone has_type x n)
+    | inr m ↦ gone (passes_type top) x m ⊙ back (gone (has_type top) x n)
     | inl y ↦ (elim (zero_or p (coefficient same_tree f x)) [
-      | inl z ↦ kept_zero (passes_type top) x z ⊙ back (kept_zero has_type x z)
-      | inr k ↦ absurd (h.first x k (earlier-type (type_of (length top) x) top (length-type_of (length top) x) (and_right (are_below (length top) x) (type_le (type_of (length top) x) top) y) n))
+      | inl z ↦ kept_zero (passes_type top) x z ⊙ back (kept_zero (has_type top) x z)
+      | inr k ↦ absurd (h.first x k (earlier-type (type_of (length top) x) top (length-type_of (length top) x) (and_right (are_below (length top) x) (type_le (type_of (length top) x) top) y)
+          (second_fails (are_below (length top) x) (list_eq (type_of (length top) x) top) (and_left (are_below (length top) x) (type_le (type_of (length top) x) top) y) n)))
     ])
   ])
 ])
   where
-    has_type : Tree → Bool
-    has_type x = list_eq (type_of (length top) x) top
+    second_fails : (a b : Bool) → a ≡ true → (a && b) ≡ false → b ≡ false
+    second_fails true b h n = n
+    second_fails false b h n = absurd (false≢true h)
 
-    of_type-passes : (x : Tree) → are_below (length top) x ≡ true → has_type x ≡ true → passes_type top x ≡ true
-    of_type-passes x b y = let e : type_of (length top) x ≡ top = list_eq-sound (type_of (length top) x) top y in
-        rw b (ap (λ t. type_le t top) e ∙ type_le-itself top)
+    of_type-passes : (x : Tree) → has_type top x ≡ true → passes_type top x ≡ true
+    of_type-passes x y =
+        let e : type_of (length top) x ≡ top = has_type-is (length top) top x refl y in
+        rw (and_left (are_below (length top) x) (list_eq (type_of (length top) x) top) y) (ap (λ t. type_le t top) e ∙ type_le-itself top)
 
     gone : (q : Tree → Bool) (x : Tree) → q x ≡ false → IsZeroAt p (keep q f) x
     gone q x n = elim (each-coefficient same_tree tree_tells (λ y. q y ≡ true) (keep q f) x (filter-each (λ t. q t.1) f)) [

@@ -13,7 +13,7 @@ use crate::generators::generators;
 use crate::{Problem, ProblemError};
 use alb_lex::Token;
 use alb_linear::{Identity, IdentityError, linearize};
-use alb_mono::{Letters, Multi};
+use alb_mono::{Letters, Multi, NoMemory};
 use alb_poly::{Linear, Poly, Rules};
 use gf_field::Field;
 use std::alloc::Global;
@@ -156,13 +156,7 @@ impl ProblemBuilder {
             return Err(ProblemError::TooManyIdentities);
         }
         let (identity, linear) = read_identity(self.alloc, &self.field, poly)?;
-        if self.identities.push(identity).is_err() {
-            return Err(ProblemError::NoMemory);
-        }
-        if self.linears.push(linear).is_err() {
-            let _ = self.identities.pop();
-            return Err(ProblemError::NoMemory);
-        }
+        push_both(&mut self.identities, &mut self.linears, identity, linear)?;
         Ok(self.identities.len() as u32)
     }
 
@@ -203,6 +197,27 @@ impl ProblemBuilder {
             letters: self.letters,
             identities: self.identities,
         })
+    }
+}
+
+// Adds an identity to a list, and its linearization to another one: both or none.
+fn push_both(
+    identities: &mut Vec<Identity>,
+    linears: &mut Vec<Linear>,
+    identity: Identity,
+    linear: Linear,
+) -> Result<(), NoMemory>
+    ensures identities { OnOk result (identities.new.items ≡ identities.old.items ++ identity ∷ []) }
+    ensures linears { OnOk result (linears.new.items ≡ linears.old.items ++ linear ∷ []) }
+    ensures unchanged { OnErr result ((identities.new.items ≡ identities.old.items) × (linears.new.items ≡ linears.old.items)) }
+{
+    identities.push(identity)?;
+    match linears.push(linear) {
+        Ok(()) => Ok(()),
+        Err(_) => {
+            let _ = identities.pop();
+            Err(NoMemory)
+        }
     }
 }
 

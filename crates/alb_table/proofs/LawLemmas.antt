@@ -1,19 +1,7 @@
 -- The laws of right tables.
-use Rattle.std.proofs.Common.{◌≡◌, ℕ, Bool, true, List, length, ap}
-use Rattle.alb_mono.specs.Listing.{Each}
-use Rattle.alb_mono.specs.Tree.{Tree, type_of}
-use Rattle.alb_poly.specs.Context.{within}
-use Rattle.alb_poly.specs.Poly.{list_eq}
-use Rattle.alb_poly.specs.Instance.{Form, fill}
-use Rattle.alb_poly.specs.Consequence.{Item, item_value}
 use Rattle.alb_poly.proofs.Consequence.{alike_poly, poly_alike}
-use Rattle.alb_poly.proofs.Multilinear.{each-from, each-map}
-use Rattle.alb_linear.proofs.IdentityLemmas.{list_eq-sound}
 use Rattle.alb_table.specs.Laws.{FactorsAreNormal, MonomialValuesDecide, RightTableIsUnique, RightTablesGrow, FirstTableIsRight}
-use Rattle.alb_table.proofs.Types.{type-listed}
 use Rattle.alb_table.proofs.Normal.{normal-left, normal-right}
-use Rattle.alb_table.proofs.Values.{each-scale}
-use Rattle.alb_table.proofs.Kept.{Passes, Kept, consequence-kept}
 use Rattle.alb_table.proofs.Right.{right-congruent, right-normal, consequence-zero_value, zero_value-consequence, normal_form-unique, basis-unique, entry-unique, right-grows, first-right}
 
 pub factors-are-normal : FactorsAreNormal

@@ -1,11 +1,10 @@
 -- Laws that functions of `laws` state.
 use Rattle.std.specs.Prelude.{◌≡◌, ◌↔◌, ℕ, ◌<◌, ◌≤◌, ◌+◌, List, [], length, sum, ◌∷◌}
-use Rattle.std.specs.List.{flat_map}
 use Rattle.alb_mono.specs.Listing.{Each}
-use Rattle.alb_mono.specs.Tree.{Tree, leaf, node, type_of}
-use Rattle.alb_poly.specs.Poly.{Poly, IsSamePoly, part}
+use Rattle.alb_mono.specs.Tree.{Tree, leaf, node}
+use Rattle.alb_poly.specs.Poly.{Poly, IsSamePoly}
 use Rattle.alb_poly.specs.Instance.{Form}
-use Rattle.alb_poly.specs.Consequence.{Item, item_value, AreItems, IsConsequence, AreMultilinear}
+use Rattle.alb_poly.specs.Consequence.{IsConsequence, AreMultilinear}
 use Rattle.alb_table.specs.Leading.{IsNormal, IsCongruent}
 use Rattle.alb_table.specs.Right.{AreHigh, poly_value, IsOfType, IsWithin, IsBasisTo, IsTypeTo, IsRight}
 use Rattle.alb_table.specs.Block.{Grows}
