@@ -1,5 +1,5 @@
 -- The texts of cells, rectangles and parts, piece by piece.
-use Rattle.std.proofs.Common.{◌≡◌, ℕ, zero, suc, ◌+◌, ◌-◌, ◌<◌, ◌≤◌, List, [], ◌∷◌, ◌++◌, length, map, take, drop, get_or, refl, sym, ap, ◌∙◌, arith, append_assoc, false}
+use Rattle.std.proofs.Common.{◌≡◌, ℕ, zero, suc, ◌+◌, ◌-◌, ◌<◌, ◌≤◌, List, [], ◌∷◌, ◌++◌, length, map, take, drop, get_or, refl, sym, ap, ◌∙◌, arith}
 use Rattle.std.specs.Prelude.{Some, None, unwrap_or, reverse}
 use Rattle.std.specs.List.{flat_map}
 use Rattle.std.proofs.lemmas.List.{take_more, reverse-append}
@@ -9,14 +9,13 @@ use Rattle.gf_sums.specs.Sums.{reindex}
 use Rattle.alb_mono.specs.Listing.{Each}
 use Rattle.alb_mono.specs.Tree.{Tree}
 use Rattle.alb_mono.specs.Types.{rising}
-use Rattle.alb_poly.specs.Poly.{Poly}
 use Rattle.alb_rows.specs.Row.{Cells, comb}
 use Rattle.alb_table.specs.Grid.{rectangle, cells_of, ArePairsBelow}
 use Rattle.alb_table.specs.declared.grid.Grid.{Grid}
 use Rattle.alb_table.specs.PartView.{PartView, mono_at, part_at}
 use Rattle.alb_table.specs.Entry.{entry_of}
-use Rattle.alb_print.specs.Text.{mono_text, later_text, value_text, later_coefficient_text, poly_text}
-use Rattle.alb_answer.specs.Answers.{cells_poly, entry_poly, row_pairs, leading_term_text}
+use Rattle.alb_print.specs.Text.{leading_text, later_text, poly_text}
+use Rattle.alb_answer.specs.Answers.{cells_poly, entry_poly, row_pairs}
 use Rattle.alb_print.proofs.Pieces.{flat-at, flat-get}
 
 -- ---- parts
@@ -53,21 +52,11 @@ take-all (x ∷ xs) (suc n) h = ap (λ ys. x ∷ ys) (take-all xs n (omega arith
 pub cells-all : (parts : List PartView) (cells : Cells) (n : ℕ) → n ≡ length cells → cells_poly parts (take n cells) ≡ cells_poly parts cells
 cells-all parts cells n h = ap (cells_poly parts) (take-all cells n h)
 
--- the sign, the absolute value and the monomial of the first term, and the other terms
-leading-regroup : (a v m rest : List ℕ) → ((a ++ v) ++ m) ++ rest ≡ (a ++ (v ++ m)) ++ rest
-leading-regroup a v m rest = ap (λ x. x ++ rest) (append_assoc a v m)
-
-pub poly-step : (p : ℕ) (letters : List ℕ) (t : ℕ × Tree) (f : Poly) → leading_term_text p letters t ++ flat_map (later_text p letters) f ≡ poly_text p letters (t ∷ f)
-poly-step p letters t f = leading-regroup _ (value_text p t.0) (mono_text letters false t.1) (flat_map (later_text p letters) f)
-
+-- the first term and the others
 pub cells-text : (p : ℕ) (letters : List ℕ) (parts : List PartView) (cells : Cells) (m : ℕ) (x : ℕ × ℕ) → m + 1 ≡ length cells → x ≡ get_or cells m x
-    → leading_term_text p letters (x.1, mono_at parts x.0) ++ flat_map (later_text p letters) (cells_poly parts (take m cells)) ≡ poly_text p letters (cells_poly parts cells)
+    → leading_text p letters (x.1, mono_at parts x.0) ++ flat_map (later_text p letters) (cells_poly parts (take m cells)) ≡ poly_text p letters (cells_poly parts cells)
 cells-text p letters parts cells m x h e =
-    poly-step p letters (x.1, mono_at parts x.0) (cells_poly parts (take m cells))
-    ∙ ap (poly_text p letters) (sym (cells-more parts cells m x (omega arith) e) ∙ cells-all parts cells (m + 1) h)
-
-pub later-regroup : (p : ℕ) (letters : List ℕ) (t : ℕ × Tree) → later_coefficient_text p t.0 ++ mono_text letters false t.1 ≡ later_text p letters t
-later-regroup p letters t = append_assoc _ (value_text p t.0) (mono_text letters false t.1)
+    ap (poly_text p letters) (sym (cells-more parts cells m x (omega arith) e) ∙ cells-all parts cells (m + 1) h)
 
 -- ---- entries
 

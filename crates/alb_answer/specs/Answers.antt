@@ -1,11 +1,11 @@
 -- How answers print.
-use Rattle.std.specs.Prelude.{ℕ, ◌<◌, IsTrue, All, List, [], ◌++◌, false, length, map, reverse, codes}
+use Rattle.std.specs.Prelude.{ℕ, ◌<◌, All, List, [], ◌++◌, false, length, map, reverse, codes}
 use Rattle.std.specs.List.{flat_map}
 use Rattle.gf_sums.specs.Sums.{reindex}
-use Rattle.alb_mono.specs.Tree.{Tree, node, are_below}
+use Rattle.alb_mono.specs.Tree.{node}
 use Rattle.alb_mono.specs.Types.{rising}
-use Rattle.alb_poly.specs.Poly.{Poly, AreResidues}
-use Rattle.alb_print.specs.Text.{named, mono_text, poly_text, type_text, leading_coefficient_text}
+use Rattle.alb_poly.specs.Poly.{Poly}
+use Rattle.alb_print.specs.Text.{named, mono_text, poly_text, type_text}
 use Rattle.alb_rows.specs.Row.{Cells, comb, ColumnsBelow}
 use Rattle.alb_table.specs.PartView.{PartView, mono_at}
 use Rattle.alb_table.specs.Entry.{products, table_product}
@@ -54,10 +54,6 @@ entry_poly parts k = reverse (reindex (mono_at parts) (table_product parts k.0 k
 -- a row over n basis elements with residues
 abbrev pub AreCells : ℕ → ℕ → Cells → Type 0
 AreCells p n cells = ColumnsBelow n cells × All (λ cell. cell.1 < p) cells
-
--- the first term of a polynomial
-abbrev pub leading_term_text : ℕ → List ℕ → ℕ × Tree → List ℕ
-leading_term_text p letters t = leading_coefficient_text p t.0 ++ mono_text letters false t.1
 
 -- the products of one left factor with the n right factors from c on
 abbrev pub row_pairs : ℕ → ℕ → ℕ → List (ℕ × ℕ)

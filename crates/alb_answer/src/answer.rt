@@ -1,8 +1,7 @@
 //! The answers to questions about polynomials, and to the building of a table.
 
-ghost use Rattle.std.specs.Prelude.{◌≡◌, ◌++◌, IsTrue, All, codes, false, length};
-ghost use Rattle.alb_io.specs.Causes.{HasCause};
-ghost use Rattle.alb_io.specs.Puts.{Puts};
+ghost use Rattle.std.specs.Prelude.{◌++◌, IsTrue, All, codes, false, length};
+ghost use Rattle.alb_io.specs.Writes.{Writes};
 ghost use Rattle.alb_mono.specs.Mono.{tree};
 ghost use Rattle.alb_mono.specs.Tree.{are_below};
 ghost use Rattle.alb_poly.specs.Poly.{AreResidues};
@@ -22,9 +21,7 @@ use gf_field::Field;
 
 // Writes the degree that an answer rests on.
 pub(crate) fn write_degree<K: Sink>(sink: &mut K, degree: u32) -> Result<(), WriteFault>
-    ensures puts { Puts result (K.taken sink.old) (K.taken sink.new) (degree_text degree) }
-    ensures same_name { K.name sink.new ≡ K.name sink.old }
-    ensures cause { HasCause (K.faults sink.old) (K.faults sink.new) result }
+    ensures { Writes K.Sink sink.old sink.new (degree_text degree) result }
 {
     write_named(sink, b"[", u64::from(degree))?;
     put_all(sink, b"] ")
@@ -39,9 +36,7 @@ fn write_normal_form<K: Sink>(
 ) -> Result<(), WriteFault>
     requires residues { AreResidues field.now f.now }
     requires known { All (λ t. IsTrue (are_below (length letters.now) t.1)) f.now }
-    ensures puts { Puts result (K.taken sink.old) (K.taken sink.new) (codes "not zero: " ++ poly_text field.now letters.now f.now) }
-    ensures same_name { K.name sink.new ≡ K.name sink.old }
-    ensures cause { HasCause (K.faults sink.old) (K.faults sink.new) result }
+    ensures { Writes K.Sink sink.old sink.new (codes "not zero: " ++ poly_text field.now letters.now f.now) result }
 {
     put_all(sink, b"not zero: ")?;
     write_poly(sink, field, letters, f)
@@ -50,9 +45,7 @@ fn write_normal_form<K: Sink>(
 // Writes a monomial whose type is not at most the target.
 fn write_misfit<K: Sink>(sink: &mut K, letters: &Letters, m: &Mono) -> Result<(), WriteFault>
     requires { IsTrue (are_below (length letters.now) (tree m.now)) }
-    ensures puts { Puts result (K.taken sink.old) (K.taken sink.new) (codes "out of type: " ++ mono_text letters.now false (tree m.now)) }
-    ensures same_name { K.name sink.new ≡ K.name sink.old }
-    ensures cause { HasCause (K.faults sink.old) (K.faults sink.new) result }
+    ensures { Writes K.Sink sink.old sink.new (codes "out of type: " ++ mono_text letters.now false (tree m.now)) result }
 {
     put_all(sink, b"out of type: ")?;
     write_mono(sink, letters, m)
@@ -66,9 +59,7 @@ fn write_reply<K: Sink>(
     reply: &Reply,
 ) -> Result<(), WriteFault>
     requires { IsOver field.now (length letters.now) (answer_of reply.now) }
-    ensures puts { Puts result (K.taken sink.old) (K.taken sink.new) (reply_text field.now letters.now (answer_of reply.now)) }
-    ensures same_name { K.name sink.new ≡ K.name sink.old }
-    ensures cause { HasCause (K.faults sink.old) (K.faults sink.new) result }
+    ensures { Writes K.Sink sink.old sink.new (reply_text field.now letters.now (answer_of reply.now)) result }
 {
     match reply {
         Reply::Zero => put_all(sink, b"zero"),
@@ -90,9 +81,7 @@ pub fn write_answer<K: Sink>(
 ) -> Result<(), WriteFault>
     requires { IsOver field.now (length letters.now) (answer_of reply.now) }
     // The text is appended, or at a fault a front of it.
-    ensures puts { Puts result (K.taken sink.old) (K.taken sink.new) (answer_line field.now letters.now degree (answer_of reply.now)) }
-    ensures same_name { K.name sink.new ≡ K.name sink.old }
-    ensures cause { HasCause (K.faults sink.old) (K.faults sink.new) result }
+    ensures { Writes K.Sink sink.old sink.new (answer_line field.now letters.now degree (answer_of reply.now)) result }
 {
     write_degree(sink, degree)?;
     write_reply(sink, field, letters, reply)?;
@@ -101,9 +90,7 @@ pub fn write_answer<K: Sink>(
 
 // Writes why a building stopped: a number and what there are too many of.
 fn write_stopped<K: Sink>(sink: &mut K, count: u64, what: &[u8]) -> Result<(), WriteFault>
-    ensures puts { Puts result (K.taken sink.old) (K.taken sink.new) (named (codes ", stopped: ") count ++ what.now) }
-    ensures same_name { K.name sink.new ≡ K.name sink.old }
-    ensures cause { HasCause (K.faults sink.old) (K.faults sink.new) result }
+    ensures { Writes K.Sink sink.old sink.new (named (codes ", stopped: ") count ++ what.now) result }
 {
     write_named(sink, b", stopped: ", count)?;
     put_all(sink, what)
@@ -111,9 +98,7 @@ fn write_stopped<K: Sink>(sink: &mut K, count: u64, what: &[u8]) -> Result<(), W
 
 // Writes that a type has too many products.
 fn write_too_wide<K: Sink>(sink: &mut K, at: &Multi, products: u64) -> Result<(), WriteFault>
-    ensures puts { Puts result (K.taken sink.old) (K.taken sink.new) (named (codes ", stopped: ") products ++ (codes " products of type " ++ type_text at.now)) }
-    ensures same_name { K.name sink.new ≡ K.name sink.old }
-    ensures cause { HasCause (K.faults sink.old) (K.faults sink.new) result }
+    ensures { Writes K.Sink sink.old sink.new (named (codes ", stopped: ") products ++ (codes " products of type " ++ type_text at.now)) result }
 {
     write_named(sink, b", stopped: ", products)?;
     put_all(sink, b" products of type ")?;
@@ -122,9 +107,7 @@ fn write_too_wide<K: Sink>(sink: &mut K, at: &Multi, products: u64) -> Result<()
 
 // Writes how a building ended.
 fn write_end<K: Sink>(sink: &mut K, end: &BuildEnd) -> Result<(), WriteFault>
-    ensures puts { Puts result (K.taken sink.old) (K.taken sink.new) (end_text (end_of end.now)) }
-    ensures same_name { K.name sink.new ≡ K.name sink.old }
-    ensures cause { HasCause (K.faults sink.old) (K.faults sink.new) result }
+    ensures { Writes K.Sink sink.old sink.new (end_text (end_of end.now)) result }
 {
     match end {
         BuildEnd::Complete => Ok(()),
@@ -141,9 +124,7 @@ fn write_end<K: Sink>(sink: &mut K, end: &BuildEnd) -> Result<(), WriteFault>
 /// building.
 pub fn write_built<K: Sink>(sink: &mut K, degree: u32, end: &BuildEnd) -> Result<(), WriteFault>
     // The text is appended, or at a fault a front of it.
-    ensures puts { Puts result (K.taken sink.old) (K.taken sink.new) (built_line degree (end_of end.now)) }
-    ensures same_name { K.name sink.new ≡ K.name sink.old }
-    ensures cause { HasCause (K.faults sink.old) (K.faults sink.new) result }
+    ensures { Writes K.Sink sink.old sink.new (built_line degree (end_of end.now)) result }
 {
     write_named(sink, b"built ", u64::from(degree))?;
     write_end(sink, end)?;

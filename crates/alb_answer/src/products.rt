@@ -1,17 +1,13 @@
 //! Tables of relatively free algebras as text.
 
-ghost use Rattle.std.specs.Prelude.{◌≡◌, ◌<◌, ◌≤◌, ◌++◌, ◌∷◌, [], All, codes, false, length, map, reverse, take, slice_index_or};
+ghost use Rattle.std.specs.Prelude.{◌≡◌, ◌<◌, ◌≤◌, false, length, map, take, slice_index_or};
 ghost use Rattle.std.specs.List.{flat_map};
-ghost use Rattle.gf_sums.specs.Sums.{reindex};
-ghost use Rattle.alb_io.specs.Causes.{HasCause};
-ghost use Rattle.alb_io.specs.Puts.{Puts};
+ghost use Rattle.alb_io.specs.Writes.{Writes};
 ghost use Rattle.alb_mono.specs.Tree.{node};
-ghost use Rattle.alb_rows.specs.Row.{comb};
-ghost use Rattle.alb_print.specs.Text.{mono_text, poly_text, later_text, term_text};
-ghost use Rattle.alb_table.specs.Grid.{ArePairsBelow, cells_of, rectangle};
-ghost use Rattle.alb_table.specs.PartView.{elems, mono_at, part_at, part_view};
-ghost use Rattle.alb_table.specs.Entry.{products};
-ghost use Rattle.alb_answer.specs.Answers.{AreCells, heading, dimension_line, dimension_lines, cells_poly, leading_term_text, entry_poly, row_pairs, product_line, part_lines, product_lines};
+ghost use Rattle.alb_print.specs.Text.{mono_text, leading_text, later_text, poly_text};
+ghost use Rattle.alb_table.specs.Grid.{ArePairsBelow, cells_of};
+ghost use Rattle.alb_table.specs.PartView.{elems, mono_at, part_view};
+ghost use Rattle.alb_answer.specs.Answers.{AreCells, heading, dimension_line, dimension_lines, cells_poly, entry_poly, row_pairs, product_line, part_lines, product_lines};
 
 use crate::answer::write_degree;
 use alb_io::{Sink, WriteFault, put_all};
@@ -28,9 +24,7 @@ fn write_heading<K: Sink>(
     word: &[u8],
     count: u64,
 ) -> Result<(), WriteFault>
-    ensures puts { Puts result (K.taken sink.old) (K.taken sink.new) (heading degree word.now count) }
-    ensures same_name { K.name sink.new ≡ K.name sink.old }
-    ensures cause { HasCause (K.faults sink.old) (K.faults sink.new) result }
+    ensures { Writes K.Sink sink.old sink.new (heading degree word.now count) result }
 {
     write_degree(sink, degree)?;
     write_named(sink, word, count)?;
@@ -46,9 +40,7 @@ fn dimension(part: &Part) -> u64
 
 // Writes a type and its dimension.
 fn write_dimension<K: Sink>(sink: &mut K, part: &Part) -> Result<(), WriteFault>
-    ensures puts { Puts result (K.taken sink.old) (K.taken sink.new) (dimension_line (part_view part.now)) }
-    ensures same_name { K.name sink.new ≡ K.name sink.old }
-    ensures cause { HasCause (K.faults sink.old) (K.faults sink.new) result }
+    ensures { Writes K.Sink sink.old sink.new (dimension_line (part_view part.now)) result }
 {
     write_type(sink, &part.at)?;
     write_named(sink, b" ", dimension(part))?;
@@ -57,9 +49,7 @@ fn write_dimension<K: Sink>(sink: &mut K, part: &Part) -> Result<(), WriteFault>
 
 // Writes the types of a table, each with its dimension.
 fn write_types<K: Sink>(sink: &mut K, tables: &Tables) -> Result<(), WriteFault>
-    ensures puts { Puts result (K.taken sink.old) (K.taken sink.new) (flat_map dimension_line tables.now.parts) }
-    ensures same_name { K.name sink.new ≡ K.name sink.old }
-    ensures cause { HasCause (K.faults sink.old) (K.faults sink.new) result }
+    ensures { Writes K.Sink sink.old sink.new (flat_map dimension_line tables.now.parts) result }
 {
     for k in 0..tables.type_count() {
         write_dimension(sink, tables.part(k))?;
@@ -71,9 +61,7 @@ fn write_types<K: Sink>(sink: &mut K, tables: &Tables) -> Result<(), WriteFault>
 /// with the type and its dimension.
 pub fn write_dimensions<K: Sink>(sink: &mut K, tables: &Tables) -> Result<(), WriteFault>
     // The text is appended, or at a fault a front of it.
-    ensures puts { Puts result (K.taken sink.old) (K.taken sink.new) (dimension_lines tables.now) }
-    ensures same_name { K.name sink.new ≡ K.name sink.old }
-    ensures cause { HasCause (K.faults sink.old) (K.faults sink.new) result }
+    ensures { Writes K.Sink sink.old sink.new (dimension_lines tables.now) result }
 {
     write_heading(
         sink,
@@ -94,9 +82,7 @@ fn write_elem<K: Sink>(
 ) -> Result<(), WriteFault>
     requires number { b < length (elems tables.now.parts) }
     requires letters { length tables.now.target ≤ length letters.now }
-    ensures puts { Puts result (K.taken sink.old) (K.taken sink.new) (mono_text letters.now inner (mono_at tables.now.parts b)) }
-    ensures same_name { K.name sink.new ≡ K.name sink.old }
-    ensures cause { HasCause (K.faults sink.old) (K.faults sink.new) result }
+    ensures { Writes K.Sink sink.old sink.new (mono_text letters.now inner (mono_at tables.now.parts b)) result }
 {
     prove!(0 < tables.degree());
     match tables.elem(b) {
@@ -114,42 +100,6 @@ fn write_elem<K: Sink>(
     }
 }
 
-// Writes the term of a cell, behind another one.
-fn write_later_cell<K: Sink>(
-    sink: &mut K,
-    letters: &Letters,
-    tables: &Tables,
-    cell: (u32, Residue),
-) -> Result<(), WriteFault>
-    requires number { cell.0 < length (elems tables.now.parts) }
-    requires residue { cell.1 < tables.now.p }
-    requires letters { length tables.now.target ≤ length letters.now }
-    ensures puts { Puts result (K.taken sink.old) (K.taken sink.new) (later_text tables.now.p letters.now (cell.1, mono_at tables.now.parts cell.0)) }
-    ensures same_name { K.name sink.new ≡ K.name sink.old }
-    ensures cause { HasCause (K.faults sink.old) (K.faults sink.new) result }
-{
-    write_later_coefficient(sink, tables.field(), cell.1)?;
-    write_elem(sink, letters, tables, false, cell.0)
-}
-
-// Writes the term of a cell, the first one.
-fn write_leading_cell<K: Sink>(
-    sink: &mut K,
-    letters: &Letters,
-    tables: &Tables,
-    cell: (u32, Residue),
-) -> Result<(), WriteFault>
-    requires number { cell.0 < length (elems tables.now.parts) }
-    requires residue { cell.1 < tables.now.p }
-    requires letters { length tables.now.target ≤ length letters.now }
-    ensures puts { Puts result (K.taken sink.old) (K.taken sink.new) (leading_term_text tables.now.p letters.now (cell.1, mono_at tables.now.parts cell.0)) }
-    ensures same_name { K.name sink.new ≡ K.name sink.old }
-    ensures cause { HasCause (K.faults sink.old) (K.faults sink.new) result }
-{
-    write_leading_coefficient(sink, tables.field(), cell.1)?;
-    write_elem(sink, letters, tables, false, cell.0)
-}
-
 // Writes the terms of cells, the last cell's first, behind another term.
 fn write_later_cells<K: Sink>(
     sink: &mut K,
@@ -159,14 +109,14 @@ fn write_later_cells<K: Sink>(
 ) -> Result<(), WriteFault>
     requires cells { AreCells tables.now.p (length (elems tables.now.parts)) cells.now }
     requires letters { length tables.now.target ≤ length letters.now }
-    ensures puts { Puts result (K.taken sink.old) (K.taken sink.new) (flat_map (later_text tables.now.p letters.now) (cells_poly tables.now.parts cells.now)) }
-    ensures same_name { K.name sink.new ≡ K.name sink.old }
-    ensures cause { HasCause (K.faults sink.old) (K.faults sink.new) result }
+    ensures { Writes K.Sink sink.old sink.new (flat_map (later_text tables.now.p letters.now) (cells_poly tables.now.parts cells.now)) result }
 {
     let mut left = cells.len();
     while left > 0 {
         left -= 1;
-        write_later_cell(sink, letters, tables, cell_at(cells, left))?;
+        let cell = cell_at(cells, left);
+        write_later_coefficient(sink, tables.field(), cell.1)?;
+        write_elem(sink, letters, tables, false, cell.0)?;
     }
     Ok(())
 }
@@ -180,15 +130,15 @@ fn write_cells<K: Sink>(
 ) -> Result<(), WriteFault>
     requires cells { AreCells tables.now.p (length (elems tables.now.parts)) cells.now }
     requires letters { length tables.now.target ≤ length letters.now }
-    ensures puts { Puts result (K.taken sink.old) (K.taken sink.new) (poly_text tables.now.p letters.now (cells_poly tables.now.parts cells.now)) }
-    ensures same_name { K.name sink.new ≡ K.name sink.old }
-    ensures cause { HasCause (K.faults sink.old) (K.faults sink.new) result }
+    ensures { Writes K.Sink sink.old sink.new (poly_text tables.now.p letters.now (cells_poly tables.now.parts cells.now)) result }
 {
     if cells.is_empty() {
         return put_all(sink, b"0");
     }
     let last = cells.len() - 1;
-    write_leading_cell(sink, letters, tables, cell_at(cells, last))?;
+    let cell = cell_at(cells, last);
+    write_leading_coefficient(sink, tables.field(), cell.1)?;
+    write_elem(sink, letters, tables, false, cell.0)?;
     write_later_cells(sink, letters, tables, before(cells, last))
 }
 
@@ -213,17 +163,13 @@ fn write_entry<K: Sink>(
     sink: &mut K,
     letters: &Letters,
     tables: &Tables,
-    b: u32,
-    c: u32,
+    pair: (u32, u32),
 ) -> Result<(), WriteFault>
-    requires left { b < length (elems tables.now.parts) }
-    requires right { c < length (elems tables.now.parts) }
+    requires pair { (pair.0 < length (elems tables.now.parts)) × (pair.1 < length (elems tables.now.parts)) }
     requires letters { length tables.now.target ≤ length letters.now }
-    ensures puts { Puts result (K.taken sink.old) (K.taken sink.new) (poly_text tables.now.p letters.now (entry_poly tables.now.parts (b, c))) }
-    ensures same_name { K.name sink.new ≡ K.name sink.old }
-    ensures cause { HasCause (K.faults sink.old) (K.faults sink.new) result }
+    ensures { Writes K.Sink sink.old sink.new (poly_text tables.now.p letters.now (entry_poly tables.now.parts pair)) result }
 {
-    match tables.product(b, c) {
+    match tables.product(pair.0, pair.1) {
         None => put_all(sink, b"0"),
         Some(row) => write_cells(sink, letters, tables, row.cells()),
     }
@@ -234,18 +180,14 @@ fn write_factors<K: Sink>(
     sink: &mut K,
     letters: &Letters,
     tables: &Tables,
-    b: u32,
-    c: u32,
+    pair: (u32, u32),
 ) -> Result<(), WriteFault>
-    requires left { b < length (elems tables.now.parts) }
-    requires right { c < length (elems tables.now.parts) }
+    requires pair { (pair.0 < length (elems tables.now.parts)) × (pair.1 < length (elems tables.now.parts)) }
     requires letters { length tables.now.target ≤ length letters.now }
-    ensures puts { Puts result (K.taken sink.old) (K.taken sink.new) (mono_text letters.now false (node (mono_at tables.now.parts b) (mono_at tables.now.parts c))) }
-    ensures same_name { K.name sink.new ≡ K.name sink.old }
-    ensures cause { HasCause (K.faults sink.old) (K.faults sink.new) result }
+    ensures { Writes K.Sink sink.old sink.new (mono_text letters.now false (node (mono_at tables.now.parts pair.0) (mono_at tables.now.parts pair.1))) result }
 {
-    write_elem(sink, letters, tables, true, b)?;
-    write_elem(sink, letters, tables, true, c)
+    write_elem(sink, letters, tables, true, pair.0)?;
+    write_elem(sink, letters, tables, true, pair.1)
 }
 
 // Writes the line of a product of two basis elements.
@@ -253,40 +195,33 @@ fn write_product<K: Sink>(
     sink: &mut K,
     letters: &Letters,
     tables: &Tables,
-    b: u32,
-    c: u32,
+    pair: (u32, u32),
 ) -> Result<(), WriteFault>
-    requires left { b < length (elems tables.now.parts) }
-    requires right { c < length (elems tables.now.parts) }
+    requires pair { (pair.0 < length (elems tables.now.parts)) × (pair.1 < length (elems tables.now.parts)) }
     requires letters { length tables.now.target ≤ length letters.now }
-    ensures puts { Puts result (K.taken sink.old) (K.taken sink.new) (product_line tables.now.p letters.now tables.now.parts (b, c)) }
-    ensures same_name { K.name sink.new ≡ K.name sink.old }
-    ensures cause { HasCause (K.faults sink.old) (K.faults sink.new) result }
+    ensures { Writes K.Sink sink.old sink.new (product_line tables.now.p letters.now tables.now.parts pair) result }
 {
-    write_factors(sink, letters, tables, b, c)?;
+    write_factors(sink, letters, tables, pair)?;
     put_all(sink, b" = ")?;
-    write_entry(sink, letters, tables, b, c)?;
+    write_entry(sink, letters, tables, pair)?;
     put_all(sink, b"\n")
 }
 
-// Writes the lines of the products of one left factor in a rectangle.
+// Writes the lines of the products of a left factor with the right factors of a rectangle.
 fn write_row<K: Sink>(
     sink: &mut K,
     letters: &Letters,
     tables: &Tables,
     b: u32,
-    right: u32,
-    rights: u32,
+    g: &Grid,
 ) -> Result<(), WriteFault>
-    requires pairs { ArePairsBelow (length (elems tables.now.parts)) (row_pairs b right rights) }
+    requires pairs { ArePairsBelow (length (elems tables.now.parts)) (row_pairs b g.now.right g.now.rights) }
     requires letters { length tables.now.target ≤ length letters.now }
-    ensures puts { Puts result (K.taken sink.old) (K.taken sink.new) (flat_map (product_line tables.now.p letters.now tables.now.parts) (row_pairs b right rights)) }
-    ensures same_name { K.name sink.new ≡ K.name sink.old }
-    ensures cause { HasCause (K.faults sink.old) (K.faults sink.new) result }
+    ensures { Writes K.Sink sink.old sink.new (flat_map (product_line tables.now.p letters.now tables.now.parts) (row_pairs b g.now.right g.now.rights)) result }
 {
     prove!(0 < tables.degree());
-    for j in 0..rights {
-        write_product(sink, letters, tables, b, right + j)?;
+    for j in 0..g.rights {
+        write_product(sink, letters, tables, (b, g.right + j))?;
     }
     Ok(())
 }
@@ -300,16 +235,14 @@ fn write_grid<K: Sink>(
 ) -> Result<(), WriteFault>
     requires pairs { ArePairsBelow (length (elems tables.now.parts)) (cells_of g.now) }
     requires letters { length tables.now.target ≤ length letters.now }
-    ensures puts { Puts result (K.taken sink.old) (K.taken sink.new) (flat_map (product_line tables.now.p letters.now tables.now.parts) (cells_of g.now)) }
-    ensures same_name { K.name sink.new ≡ K.name sink.old }
-    ensures cause { HasCause (K.faults sink.old) (K.faults sink.new) result }
+    ensures { Writes K.Sink sink.old sink.new (flat_map (product_line tables.now.p letters.now tables.now.parts) (cells_of g.now)) result }
 {
     prove!(0 < tables.degree());
     if g.rights == 0 {
         return Ok(());
     }
     for i in 0..g.lefts {
-        write_row(sink, letters, tables, g.left + i, g.right, g.rights)?;
+        write_row(sink, letters, tables, g.left + i, g)?;
     }
     Ok(())
 }
@@ -331,9 +264,7 @@ fn write_grids<K: Sink>(
 ) -> Result<(), WriteFault>
     requires pairs { ArePairsBelow (length (elems tables.now.parts)) (flat_map cells_of grids.now) }
     requires letters { length tables.now.target ≤ length letters.now }
-    ensures puts { Puts result (K.taken sink.old) (K.taken sink.new) (flat_map (product_line tables.now.p letters.now tables.now.parts) (flat_map cells_of grids.now)) }
-    ensures same_name { K.name sink.new ≡ K.name sink.old }
-    ensures cause { HasCause (K.faults sink.old) (K.faults sink.new) result }
+    ensures { Writes K.Sink sink.old sink.new (flat_map (product_line tables.now.p letters.now tables.now.parts) (flat_map cells_of grids.now)) result }
 {
     for i in 0..grids.len() {
         write_grid(sink, letters, tables, grid_at(grids, i))?;
@@ -344,9 +275,7 @@ fn write_grids<K: Sink>(
 // Writes the lines of the products of all types.
 fn write_parts<K: Sink>(sink: &mut K, letters: &Letters, tables: &Tables) -> Result<(), WriteFault>
     requires { length tables.now.target ≤ length letters.now }
-    ensures puts { Puts result (K.taken sink.old) (K.taken sink.new) (flat_map (part_lines tables.now.p letters.now tables.now.parts) tables.now.parts) }
-    ensures same_name { K.name sink.new ≡ K.name sink.old }
-    ensures cause { HasCause (K.faults sink.old) (K.faults sink.new) result }
+    ensures { Writes K.Sink sink.old sink.new (flat_map (part_lines tables.now.p letters.now tables.now.parts) tables.now.parts) result }
 {
     for k in 0..tables.type_count() {
         write_grids(sink, letters, tables, tables.grids(k))?;
@@ -363,9 +292,7 @@ pub fn write_products<K: Sink>(
 ) -> Result<(), WriteFault>
     requires { length tables.now.target ≤ length letters.now }
     // The text is appended, or at a fault a front of it.
-    ensures puts { Puts result (K.taken sink.old) (K.taken sink.new) (product_lines letters.now tables.now) }
-    ensures same_name { K.name sink.new ≡ K.name sink.old }
-    ensures cause { HasCause (K.faults sink.old) (K.faults sink.new) result }
+    ensures { Writes K.Sink sink.old sink.new (product_lines letters.now tables.now) result }
 {
     write_heading(sink, tables.degree(), b"table ", tables.products())?;
     write_parts(sink, letters, tables)

@@ -1,7 +1,7 @@
 -- How a line of evidence is cut into words.
-use Rattle.std.specs.Prelude.{ℕ, Bool, true, false, ◌&&◌, ◌==◌, nat_eq, nat_le, if◌then◌else◌, List, [], ◌∷◌, length, Option, None, Some, codes}
-use Rattle.std.specs.List.{starts_with}
+use Rattle.std.specs.Prelude.{ℕ, Bool, true, false, ◌&&◌, nat_le, if◌then◌else◌, List, [], ◌∷◌, length, Option, None, Some, codes}
 use Rattle.alb_lex.specs.Lexing.{is_blank}
+pub use Rattle.alb_lex.specs.Words.{is_word}
 
 -- a byte at the front of the first word
 abbrev pub onto_word : ℕ → List (List ℕ) → List (List ℕ)
@@ -22,10 +22,6 @@ words (b ∷ bs) = if is_blank b then words bs else if ends_word bs then (b ∷ 
 abbrev pub cut : List (List ℕ) → Option (List ℕ × List (List ℕ))
 cut [] = None
 cut (w ∷ ws) = Some (w, ws)
-
--- the text is the word
-abbrev pub is_word : List ℕ → List ℕ → Bool
-is_word word text = starts_with nat_eq text word && (length text == length word)
 
 abbrev pub are_end : List (List ℕ) → Bool
 are_end [] = false

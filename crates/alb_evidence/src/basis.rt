@@ -2,8 +2,7 @@
 
 ghost use Rattle.std.specs.Prelude.{◌≡◌, ◌<◌, ◌∷◌, [], All, length, slice_index, Some};
 ghost use Rattle.std.specs.List.{flat_map};
-ghost use Rattle.alb_io.specs.Causes.{HasCause};
-ghost use Rattle.alb_io.specs.Puts.{Puts};
+ghost use Rattle.alb_io.specs.Writes.{Writes};
 ghost use Rattle.alb_check.specs.Raw.{raw, IsRaw};
 ghost use Rattle.alb_evidence.specs.Texts.{counted, typed, element_text, generator_text, entry_text, table_text};
 
@@ -16,9 +15,7 @@ use gf_field::Field;
 
 // Writes a type behind a space, and ends the line.
 fn write_typed<K: Sink>(sink: &mut K, t: &Multi) -> Result<(), WriteFault>
-    ensures puts { Puts result (K.taken sink.old) (K.taken sink.new) (typed t.now) }
-    ensures same_name { K.name sink.new ≡ K.name sink.old }
-    ensures cause { HasCause (K.faults sink.old) (K.faults sink.new) result }
+    ensures { Writes K.Sink sink.old sink.new (typed t.now) result }
 {
     put_all(sink, b" ")?;
     write_type(sink, t)?;
@@ -27,9 +24,7 @@ fn write_typed<K: Sink>(sink: &mut K, t: &Multi) -> Result<(), WriteFault>
 
 // Writes the line of an element.
 fn write_element<K: Sink>(sink: &mut K, number: u64, t: &Multi) -> Result<(), WriteFault>
-    ensures puts { Puts result (K.taken sink.old) (K.taken sink.new) (element_text number t.now) }
-    ensures same_name { K.name sink.new ≡ K.name sink.old }
-    ensures cause { HasCause (K.faults sink.old) (K.faults sink.new) result }
+    ensures { Writes K.Sink sink.old sink.new (element_text number t.now) result }
 {
     write_named(sink, b"element ", number)?;
     write_typed(sink, t)
@@ -37,9 +32,7 @@ fn write_element<K: Sink>(sink: &mut K, number: u64, t: &Multi) -> Result<(), Wr
 
 // Writes the lines of the elements, numbered from 1.
 fn write_elements<K: Sink>(sink: &mut K, elements: &[Multi]) -> Result<(), WriteFault>
-    ensures puts { Puts result (K.taken sink.old) (K.taken sink.new) (counted element_text 1 elements.now) }
-    ensures same_name { K.name sink.new ≡ K.name sink.old }
-    ensures cause { HasCause (K.faults sink.old) (K.faults sink.new) result }
+    ensures { Writes K.Sink sink.old sink.new (counted element_text 1 elements.now) result }
 {
     for i in 0..elements.len() {
         write_element(sink, i as u64 + 1, &elements[i])?;
@@ -54,9 +47,7 @@ fn write_letter<K: Sink>(
     generator: usize,
 ) -> Result<(), WriteFault>
     requires { generator < length letters.now }
-    ensures puts { Puts result (K.taken sink.old) (K.taken sink.new) (slice_index letters.now generator ∷ []) }
-    ensures same_name { K.name sink.new ≡ K.name sink.old }
-    ensures cause { HasCause (K.faults sink.old) (K.faults sink.new) result }
+    ensures { Writes K.Sink sink.old sink.new (slice_index letters.now generator ∷ []) result }
 {
     let letter = letters.list()[generator];
     put_all(sink, &[letter])
@@ -70,9 +61,7 @@ fn write_place<K: Sink>(
     element: u64,
 ) -> Result<(), WriteFault>
     requires { generator < length letters.now }
-    ensures puts { Puts result (K.taken sink.old) (K.taken sink.new) (generator_text letters.now generator (Some element)) }
-    ensures same_name { K.name sink.new ≡ K.name sink.old }
-    ensures cause { HasCause (K.faults sink.old) (K.faults sink.new) result }
+    ensures { Writes K.Sink sink.old sink.new (generator_text letters.now generator (Some element)) result }
 {
     put_all(sink, b"generator ")?;
     write_letter(sink, letters, generator)?;
@@ -88,9 +77,7 @@ fn write_generator<K: Sink>(
     element: Option<u64>,
 ) -> Result<(), WriteFault>
     requires { generator < length letters.now }
-    ensures puts { Puts result (K.taken sink.old) (K.taken sink.new) (generator_text letters.now generator element) }
-    ensures same_name { K.name sink.new ≡ K.name sink.old }
-    ensures cause { HasCause (K.faults sink.old) (K.faults sink.new) result }
+    ensures { Writes K.Sink sink.old sink.new (generator_text letters.now generator element) result }
 {
     match element {
         Some(number) => write_place(sink, letters, generator, number),
@@ -105,9 +92,7 @@ fn write_generators<K: Sink>(
     generators: &[Option<u64>],
 ) -> Result<(), WriteFault>
     requires { length generators.now ≡ length letters.now }
-    ensures puts { Puts result (K.taken sink.old) (K.taken sink.new) (counted (generator_text letters.now) 0 generators.now) }
-    ensures same_name { K.name sink.new ≡ K.name sink.old }
-    ensures cause { HasCause (K.faults sink.old) (K.faults sink.new) result }
+    ensures { Writes K.Sink sink.old sink.new (counted (generator_text letters.now) 0 generators.now) result }
 {
     for k in 0..generators.len() {
         write_generator(sink, letters, k, generators[k])?;
@@ -118,9 +103,7 @@ fn write_generators<K: Sink>(
 // Writes the line of an entry.
 fn write_entry<K: Sink>(sink: &mut K, field: &Field, entry: RawEntry) -> Result<(), WriteFault>
     requires { entry.coef < field.now }
-    ensures puts { Puts result (K.taken sink.old) (K.taken sink.new) (entry_text field.now entry) }
-    ensures same_name { K.name sink.new ≡ K.name sink.old }
-    ensures cause { HasCause (K.faults sink.old) (K.faults sink.new) result }
+    ensures { Writes K.Sink sink.old sink.new (entry_text field.now entry) result }
 {
     write_named(sink, b"entry ", entry.left)?;
     write_named(sink, b" ", entry.right)?;
@@ -137,9 +120,7 @@ fn write_entries<K: Sink>(
     entries: &[RawEntry],
 ) -> Result<(), WriteFault>
     requires { All (λ e. e.coef < field.now) entries.now }
-    ensures puts { Puts result (K.taken sink.old) (K.taken sink.new) (flat_map (entry_text field.now) entries.now) }
-    ensures same_name { K.name sink.new ≡ K.name sink.old }
-    ensures cause { HasCause (K.faults sink.old) (K.faults sink.new) result }
+    ensures { Writes K.Sink sink.old sink.new (flat_map (entry_text field.now) entries.now) result }
 {
     for entry in entries {
         write_entry(sink, field, *entry)?;
@@ -158,9 +139,7 @@ pub fn write_table<K: Sink>(
 ) -> Result<(), WriteFault>
     requires { IsRaw field.now (length letters.now) (raw table.now) }
     // The text is appended, or at a fault a front of it.
-    ensures puts { Puts result (K.taken sink.old) (K.taken sink.new) (table_text field.now letters.now (raw table.now)) }
-    ensures same_name { K.name sink.new ≡ K.name sink.old }
-    ensures cause { HasCause (K.faults sink.old) (K.faults sink.new) result }
+    ensures { Writes K.Sink sink.old sink.new (table_text field.now letters.now (raw table.now)) result }
 {
     put_all(sink, b"table")?;
     write_typed(sink, &table.top)?;

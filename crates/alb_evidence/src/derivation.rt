@@ -1,9 +1,8 @@
 //! Derivations as text.
 
-ghost use Rattle.std.specs.Prelude.{◌≡◌, ◌<◌, ◌++◌, IsTrue, All, codes, false, length, map};
+ghost use Rattle.std.specs.Prelude.{◌<◌, ◌++◌, IsTrue, All, codes, false, length, map};
 ghost use Rattle.std.specs.List.{flat_map};
-ghost use Rattle.alb_io.specs.Causes.{HasCause};
-ghost use Rattle.alb_io.specs.Puts.{Puts};
+ghost use Rattle.alb_io.specs.Writes.{Writes};
 ghost use Rattle.alb_mono.specs.Mono.{tree};
 ghost use Rattle.alb_mono.specs.Tree.{are_below};
 ghost use Rattle.alb_print.specs.Text.{mono_text, named};
@@ -20,9 +19,7 @@ use gf_field::{Field, Residue};
 // Writes a monomial behind a space.
 fn write_spaced<K: Sink>(sink: &mut K, letters: &Letters, m: &Mono) -> Result<(), WriteFault>
     requires { IsTrue (are_below (length letters.now) (tree m.now)) }
-    ensures puts { Puts result (K.taken sink.old) (K.taken sink.new) (spaced_mono letters.now (tree m.now)) }
-    ensures same_name { K.name sink.new ≡ K.name sink.old }
-    ensures cause { HasCause (K.faults sink.old) (K.faults sink.new) result }
+    ensures { Writes K.Sink sink.old sink.new (spaced_mono letters.now (tree m.now)) result }
 {
     put_all(sink, b" ")?;
     write_mono(sink, letters, m)
@@ -31,9 +28,7 @@ fn write_spaced<K: Sink>(sink: &mut K, letters: &Letters, m: &Mono) -> Result<()
 // Writes monomials, each behind a space.
 fn write_monos<K: Sink>(sink: &mut K, letters: &Letters, ms: &[Mono]) -> Result<(), WriteFault>
     requires { All (λ m. IsTrue (are_below (length letters.now) (tree m))) ms.now }
-    ensures puts { Puts result (K.taken sink.old) (K.taken sink.new) (flat_map (spaced_mono letters.now) (map tree ms.now)) }
-    ensures same_name { K.name sink.new ≡ K.name sink.old }
-    ensures cause { HasCause (K.faults sink.old) (K.faults sink.new) result }
+    ensures { Writes K.Sink sink.old sink.new (flat_map (spaced_mono letters.now) (map tree ms.now)) result }
 {
     for m in ms {
         write_spaced(sink, letters, m)?;
@@ -49,18 +44,14 @@ fn write_instance<K: Sink>(
     ms: &[Mono],
 ) -> Result<(), WriteFault>
     requires { All (λ m. IsTrue (are_below (length letters.now) (tree m))) ms.now }
-    ensures puts { Puts result (K.taken sink.old) (K.taken sink.new) (named (codes " instance ") identity ++ flat_map (spaced_mono letters.now) (map tree ms.now)) }
-    ensures same_name { K.name sink.new ≡ K.name sink.old }
-    ensures cause { HasCause (K.faults sink.old) (K.faults sink.new) result }
+    ensures { Writes K.Sink sink.old sink.new (named (codes " instance ") identity ++ flat_map (spaced_mono letters.now) (map tree ms.now)) result }
 {
     write_named(sink, b" instance ", identity)?;
     write_monos(sink, letters, ms)
 }
 
 fn write_side<K: Sink>(sink: &mut K, side: Side) -> Result<(), WriteFault>
-    ensures puts { Puts result (K.taken sink.old) (K.taken sink.new) (side_text side) }
-    ensures same_name { K.name sink.new ≡ K.name sink.old }
-    ensures cause { HasCause (K.faults sink.old) (K.faults sink.new) result }
+    ensures { Writes K.Sink sink.old sink.new (side_text side) result }
 {
     match side {
         Side::Left => put_all(sink, b" left "),
@@ -77,9 +68,7 @@ fn write_times<K: Sink>(
     m: &Mono,
 ) -> Result<(), WriteFault>
     requires { IsTrue (are_below (length letters.now) (tree m.now)) }
-    ensures puts { Puts result (K.taken sink.old) (K.taken sink.new) (named (codes " times ") earlier ++ (side_text side ++ mono_text letters.now false (tree m.now))) }
-    ensures same_name { K.name sink.new ≡ K.name sink.old }
-    ensures cause { HasCause (K.faults sink.old) (K.faults sink.new) result }
+    ensures { Writes K.Sink sink.old sink.new (named (codes " times ") earlier ++ (side_text side ++ mono_text letters.now false (tree m.now))) result }
 {
     write_named(sink, b" times ", earlier)?;
     write_side(sink, side)?;
@@ -94,9 +83,7 @@ fn write_item<K: Sink>(
     earlier: u64,
 ) -> Result<(), WriteFault>
     requires { c < field.now }
-    ensures puts { Puts result (K.taken sink.old) (K.taken sink.new) (item_text field.now (c, earlier)) }
-    ensures same_name { K.name sink.new ≡ K.name sink.old }
-    ensures cause { HasCause (K.faults sink.old) (K.faults sink.new) result }
+    ensures { Writes K.Sink sink.old sink.new (item_text field.now (c, earlier)) result }
 {
     put_all(sink, b" ")?;
     write_signed(sink, field, c)?;
@@ -110,9 +97,7 @@ fn write_items<K: Sink>(
     items: &[(Residue, u64)],
 ) -> Result<(), WriteFault>
     requires { All (λ c. c.0 < field.now) items.now }
-    ensures puts { Puts result (K.taken sink.old) (K.taken sink.new) (flat_map (item_text field.now) items.now) }
-    ensures same_name { K.name sink.new ≡ K.name sink.old }
-    ensures cause { HasCause (K.faults sink.old) (K.faults sink.new) result }
+    ensures { Writes K.Sink sink.old sink.new (flat_map (item_text field.now) items.now) result }
 {
     for item in items {
         write_item(sink, field, item.0, item.1)?;
@@ -127,9 +112,7 @@ fn write_sum<K: Sink>(
     items: &[(Residue, u64)],
 ) -> Result<(), WriteFault>
     requires { All (λ c. c.0 < field.now) items.now }
-    ensures puts { Puts result (K.taken sink.old) (K.taken sink.new) (codes " sum" ++ flat_map (item_text field.now) items.now) }
-    ensures same_name { K.name sink.new ≡ K.name sink.old }
-    ensures cause { HasCause (K.faults sink.old) (K.faults sink.new) result }
+    ensures { Writes K.Sink sink.old sink.new (codes " sum" ++ flat_map (item_text field.now) items.now) result }
 {
     put_all(sink, b" sum")?;
     write_items(sink, field, items)
@@ -143,9 +126,7 @@ fn write_kind<K: Sink>(
     l: &Line,
 ) -> Result<(), WriteFault>
     requires { IsLine field.now (length letters.now) l.now }
-    ensures puts { Puts result (K.taken sink.old) (K.taken sink.new) (kind_text field.now letters.now (line l.now)) }
-    ensures same_name { K.name sink.new ≡ K.name sink.old }
-    ensures cause { HasCause (K.faults sink.old) (K.faults sink.new) result }
+    ensures { Writes K.Sink sink.old sink.new (kind_text field.now letters.now (line l.now)) result }
 {
     match l {
         Line::Instance(identity, ms) => write_instance(sink, letters, *identity, ms),
@@ -163,9 +144,7 @@ fn write_line<K: Sink>(
     l: &Line,
 ) -> Result<(), WriteFault>
     requires { IsLine field.now (length letters.now) l.now }
-    ensures puts { Puts result (K.taken sink.old) (K.taken sink.new) (line_text field.now letters.now number (line l.now)) }
-    ensures same_name { K.name sink.new ≡ K.name sink.old }
-    ensures cause { HasCause (K.faults sink.old) (K.faults sink.new) result }
+    ensures { Writes K.Sink sink.old sink.new (line_text field.now letters.now number (line l.now)) result }
 {
     write_count(sink, number)?;
     write_kind(sink, field, letters, l)?;
@@ -180,9 +159,7 @@ fn write_numbered<K: Sink>(
     lines: &[Line],
 ) -> Result<(), WriteFault>
     requires { All (IsLine field.now (length letters.now)) lines.now }
-    ensures puts { Puts result (K.taken sink.old) (K.taken sink.new) (counted (line_text field.now letters.now) 1 (map line lines.now)) }
-    ensures same_name { K.name sink.new ≡ K.name sink.old }
-    ensures cause { HasCause (K.faults sink.old) (K.faults sink.new) result }
+    ensures { Writes K.Sink sink.old sink.new (counted (line_text field.now letters.now) 1 (map line lines.now)) result }
 {
     for i in 0..lines.len() {
         write_line(sink, field, letters, i as u64 + 1, &lines[i])?;
@@ -200,9 +177,7 @@ pub fn write_lines<K: Sink>(
 ) -> Result<(), WriteFault>
     requires { All (IsLine field.now (length letters.now)) lines.now }
     // The text is appended, or at a fault a front of it.
-    ensures puts { Puts result (K.taken sink.old) (K.taken sink.new) (lines_text field.now letters.now (map line lines.now)) }
-    ensures same_name { K.name sink.new ≡ K.name sink.old }
-    ensures cause { HasCause (K.faults sink.old) (K.faults sink.new) result }
+    ensures { Writes K.Sink sink.old sink.new (lines_text field.now letters.now (map line lines.now)) result }
 {
     put_all(sink, b"derivation\n")?;
     write_numbered(sink, field, letters, lines)?;

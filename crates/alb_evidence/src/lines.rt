@@ -9,12 +9,9 @@ ghost use Rattle.alb_evidence.specs.Block.{mono, monos, side, item, items, insta
 ghost use Rattle.alb_evidence.specs.Gives.{Gives};
 
 use crate::flaw::Flaw;
-use crate::words::{
-    coefficient, first_star, first_word, is_word, next_word, no_more, number, numbered,
-    text_before, text_from,
-};
+use crate::words::{coefficient, first_star, first_word, next_word, no_more, number, numbered};
 use alb_deriv::Line;
-use alb_lex::{LexError, tokens};
+use alb_lex::{LexError, is_word, text_before, text_from, tokens};
 use alb_mono::{Letters, Mono, Side};
 use alb_syntax::{SyntaxError, read_mono};
 use gf_field::{Field, Residue};

@@ -1,8 +1,7 @@
 //! Numbers as text.
 
-ghost use Rattle.std.specs.Prelude.{◌≡◌, ◌<◌};
-ghost use Rattle.alb_io.specs.Causes.{HasCause};
-ghost use Rattle.alb_io.specs.Puts.{Puts};
+ghost use Rattle.std.specs.Prelude.{◌<◌};
+ghost use Rattle.alb_io.specs.Writes.{Writes};
 ghost use Rattle.alb_evidence.specs.Texts.{signed_text};
 
 use alb_io::{Sink, WriteFault};
@@ -12,9 +11,7 @@ use gf_field::{Field, Residue};
 /// Writes the signed residue.
 pub fn write_signed<K: Sink>(sink: &mut K, field: &Field, c: Residue) -> Result<(), WriteFault>
     requires { c < field.now }
-    ensures puts { Puts result (K.taken sink.old) (K.taken sink.new) (signed_text field.now c) }
-    ensures same_name { K.name sink.new ≡ K.name sink.old }
-    ensures cause { HasCause (K.faults sink.old) (K.faults sink.new) result }
+    ensures { Writes K.Sink sink.old sink.new (signed_text field.now c) result }
 {
     let p = field.p();
     let number = u64::from(c);

@@ -9,9 +9,9 @@ ghost use Rattle.alb_evidence.specs.Gives.{Gives};
 ghost use Rattle.alb_evidence.specs.Said.{IsRawPart};
 
 use crate::flaw::Flaw;
-use crate::words::{coefficient, first_word, is_word, no_more, number, numbered};
+use crate::words::{coefficient, first_word, no_more, number, numbered};
 use alb_check::{RawEntry, RawTable};
-use alb_lex::{LexError, Token, TokenKind, tokens};
+use alb_lex::{LexError, Token, TokenKind, is_word, tokens};
 use alb_mono::{Letters, Multi};
 use gf_field::Field;
 use std::alloc::Global;

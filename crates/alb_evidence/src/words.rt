@@ -1,21 +1,16 @@
 //! The words of a line, and numbers.
 
-ghost use Rattle.std.specs.Prelude.{◌≡◌, ◌<◌, ◌≤◌, ◌==◌, ℕ, true, false, length, take, drop, position, option_map, IfSome, IfOk, IsTrue, slice_index};
+ghost use Rattle.std.specs.Prelude.{◌≡◌, ◌<◌, ◌≤◌, ◌==◌, ℕ, true, false, length, position, option_map, IfSome, IfOk, IsTrue, slice_index};
 ghost use Rattle.std.specs.List.{list_all};
 ghost use Rattle.std.specs.Char.{is_ascii_digit};
 ghost use Rattle.alb_lex.specs.Lexing.{is_blank, value_after};
-ghost use Rattle.alb_evidence.specs.Words.{words, cut, is_word, are_end};
+ghost use Rattle.alb_evidence.specs.Words.{words, cut, are_end};
 ghost use Rattle.alb_evidence.specs.Block.{first_word, no_more, digits, is_negative, number, coefficient, numbered, is_comment, are_skipped};
 ghost use Rattle.alb_evidence.specs.Gives.{Gives};
 
 use crate::flaw::Flaw;
+use alb_lex::{is_blank, is_word, text_before, text_from};
 use gf_field::{Field, Residue};
-
-fn is_blank(b: u8) -> bool
-    ensures { result ≡ is_blank b }
-{
-    b == b' ' || b == b'\t' || b == b'\r'
-}
 
 // How many blanks stand at the front.
 fn blanks(text: &[u8]) -> usize
@@ -53,22 +48,6 @@ pub fn first_star(text: &[u8]) -> Option<usize>
     text.iter().position(|b| *b == b'*')
 }
 
-/// The text from a place on.
-pub fn text_from(text: &[u8], at: usize) -> &[u8]
-    requires { at ≤ length text.now }
-    ensures { result.now ≡ drop at text.now }
-{
-    &text[at..]
-}
-
-/// The text before a place.
-pub fn text_before(text: &[u8], at: usize) -> &[u8]
-    requires { at ≤ length text.now }
-    ensures { result.now ≡ take at text.now }
-{
-    &text[..at]
-}
-
 /// The first word of a text, and the text behind it.
 pub fn next_word(text: &[u8]) -> Option<(&[u8], &[u8])>
     ensures value { option_map (λ q. (q.0.now, words q.1.now)) result ≡ cut (words text.now) }
@@ -103,13 +82,6 @@ pub fn no_more(text: &[u8]) -> Result<(), Flaw>
         Some(_) => Err(Flaw::BadLine),
         None => Ok(()),
     }
-}
-
-/// Whether the text is the word.
-pub fn is_word(word: &[u8], text: &[u8]) -> bool
-    ensures { result ≡ is_word word.now text.now }
-{
-    text.starts_with(word) && text.len() == word.len()
 }
 
 /// Whether `end` is the only word.

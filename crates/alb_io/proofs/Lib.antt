@@ -3,3 +3,4 @@ pub mod LineLemmas
 pub mod Pieces
 pub mod Readings
 pub mod Shelves
+pub mod Writers

@@ -8,3 +8,4 @@ pub mod Puts
 pub mod Reader
 pub mod Reading
 pub mod Status
+pub mod Writes

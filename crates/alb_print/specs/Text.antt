@@ -30,25 +30,35 @@ absolute p r = if is_negative p r then p - r else r
 abbrev pub value_text : ℕ → ℕ → List ℕ
 value_text p r = if absolute p r == 1 then [] else decimal (absolute p r)
 
--- a coefficient with its sign: of the first term, and of a term behind another one
+-- the sign of a first term, and of a term behind another one
+abbrev pub leading_sign : ℕ → ℕ → List ℕ
+leading_sign p r = if is_negative p r then codes "-" else []
+
+abbrev pub later_sign : ℕ → ℕ → List ℕ
+later_sign p r = if is_negative p r then codes " - " else codes " + "
+
+-- a coefficient with its sign: of a first term, and of a term behind another one
 abbrev pub leading_coefficient_text : ℕ → ℕ → List ℕ
-leading_coefficient_text p r = (if is_negative p r then codes "-" else []) ++ value_text p r
+leading_coefficient_text p r = leading_sign p r ++ value_text p r
 
 abbrev pub later_coefficient_text : ℕ → ℕ → List ℕ
-later_coefficient_text p r = (if is_negative p r then codes " - " else codes " + ") ++ value_text p r
+later_coefficient_text p r = later_sign p r ++ value_text p r
 
 -- a term without its sign
 abbrev pub term_text : ℕ → List ℕ → ℕ × Tree → List ℕ
 term_text p letters t = value_text p t.0 ++ mono_text letters false t.1
 
--- a term behind another one
+-- a first term, and a term behind another one
+abbrev pub leading_text : ℕ → List ℕ → ℕ × Tree → List ℕ
+leading_text p letters t = leading_sign p t.0 ++ term_text p letters t
+
 abbrev pub later_text : ℕ → List ℕ → ℕ × Tree → List ℕ
-later_text p letters t = (if is_negative p t.0 then codes " - " else codes " + ") ++ term_text p letters t
+later_text p letters t = later_sign p t.0 ++ term_text p letters t
 
 -- a polynomial, by the list of its terms
 abbrev pub poly_text : ℕ → List ℕ → Poly → List ℕ
 poly_text p letters [] = codes "0"
-poly_text p letters (t ∷ f) = (if is_negative p t.0 then codes "-" else []) ++ term_text p letters t ++ flat_map (later_text p letters) f
+poly_text p letters (t ∷ f) = leading_text p letters t ++ flat_map (later_text p letters) f
 
 -- a type: its counts in the order of the generators, with commas, in round brackets
 abbrev pub type_text : List ℕ → List ℕ

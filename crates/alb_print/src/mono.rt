@@ -1,6 +1,5 @@
-ghost use Rattle.std.specs.Prelude.{◌≡◌, IsTrue, length, true, false};
-ghost use Rattle.alb_io.specs.Causes.{HasCause};
-ghost use Rattle.alb_io.specs.Puts.{Puts};
+ghost use Rattle.std.specs.Prelude.{IsTrue, length, true, false};
+ghost use Rattle.alb_io.specs.Writes.{Writes};
 ghost use Rattle.alb_mono.specs.Mono.{tree};
 ghost use Rattle.alb_mono.specs.Tree.{are_below};
 ghost use Rattle.alb_print.specs.Text.{mono_text};
@@ -16,9 +15,7 @@ fn write_part<K: Sink>(
     m: &Mono,
 ) -> Result<(), WriteFault>
     requires { IsTrue (are_below (length letters.now) (tree m.now)) }
-    ensures puts { Puts result (K.taken sink.old) (K.taken sink.new) (mono_text letters.now inner (tree m.now)) }
-    ensures same_name { K.name sink.new ≡ K.name sink.old }
-    ensures cause { HasCause (K.faults sink.old) (K.faults sink.new) result }
+    ensures { Writes K.Sink sink.old sink.new (mono_text letters.now inner (tree m.now)) result }
 {
     match m {
         Mono::Gen(k) => put_all(sink, &[letters.letter(*k)]),
@@ -39,9 +36,7 @@ fn write_part<K: Sink>(
 /// product stands in round brackets, and the outermost product does not.
 pub fn write_mono<K: Sink>(sink: &mut K, letters: &Letters, m: &Mono) -> Result<(), WriteFault>
     requires { IsTrue (are_below (length letters.now) (tree m.now)) }
-    ensures puts { Puts result (K.taken sink.old) (K.taken sink.new) (mono_text letters.now false (tree m.now)) }
-    ensures same_name { K.name sink.new ≡ K.name sink.old }
-    ensures cause { HasCause (K.faults sink.old) (K.faults sink.new) result }
+    ensures { Writes K.Sink sink.old sink.new (mono_text letters.now false (tree m.now)) result }
 {
     write_part(sink, letters, false, m)
 }

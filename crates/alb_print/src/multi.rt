@@ -1,7 +1,6 @@
-ghost use Rattle.std.specs.Prelude.{◌≡◌, ◌∷◌, map, decimal};
+ghost use Rattle.std.specs.Prelude.{◌∷◌, map, decimal};
 ghost use Rattle.std.specs.List.{flat_map, join_with_byte};
-ghost use Rattle.alb_io.specs.Causes.{HasCause};
-ghost use Rattle.alb_io.specs.Puts.{Puts};
+ghost use Rattle.alb_io.specs.Writes.{Writes};
 ghost use Rattle.alb_print.specs.Text.{type_text};
 
 use crate::behind::behind;
@@ -11,9 +10,7 @@ use alb_mono::Multi;
 
 // Writes a count behind another one.
 fn write_later_count<K: Sink>(sink: &mut K, count: u8) -> Result<(), WriteFault>
-    ensures puts { Puts result (K.taken sink.old) (K.taken sink.new) (44 ∷ decimal count) }
-    ensures same_name { K.name sink.new ≡ K.name sink.old }
-    ensures cause { HasCause (K.faults sink.old) (K.faults sink.new) result }
+    ensures { Writes K.Sink sink.old sink.new (44 ∷ decimal count) result }
 {
     put_all(sink, b",")?;
     write_count(sink, u64::from(count))
@@ -21,9 +18,7 @@ fn write_later_count<K: Sink>(sink: &mut K, count: u8) -> Result<(), WriteFault>
 
 // Writes the counts behind the first one.
 fn write_later_counts<K: Sink>(sink: &mut K, counts: &[u8]) -> Result<(), WriteFault>
-    ensures puts { Puts result (K.taken sink.old) (K.taken sink.new) (flat_map (λ n. 44 ∷ decimal n) counts.now) }
-    ensures same_name { K.name sink.new ≡ K.name sink.old }
-    ensures cause { HasCause (K.faults sink.old) (K.faults sink.new) result }
+    ensures { Writes K.Sink sink.old sink.new (flat_map (λ n. 44 ∷ decimal n) counts.now) result }
 {
     for count in counts {
         write_later_count(sink, *count)?;
@@ -33,9 +28,7 @@ fn write_later_counts<K: Sink>(sink: &mut K, counts: &[u8]) -> Result<(), WriteF
 
 // Writes counts with commas between them.
 fn write_counts<K: Sink>(sink: &mut K, counts: &[u8]) -> Result<(), WriteFault>
-    ensures puts { Puts result (K.taken sink.old) (K.taken sink.new) (join_with_byte 44 (map decimal counts.now)) }
-    ensures same_name { K.name sink.new ≡ K.name sink.old }
-    ensures cause { HasCause (K.faults sink.old) (K.faults sink.new) result }
+    ensures { Writes K.Sink sink.old sink.new (join_with_byte 44 (map decimal counts.now)) result }
 {
     if counts.is_empty() {
         return Ok(());
@@ -46,9 +39,7 @@ fn write_counts<K: Sink>(sink: &mut K, counts: &[u8]) -> Result<(), WriteFault>
 
 /// Writes a type: its counts in the order of the generators, with commas, in round brackets.
 pub fn write_type<K: Sink>(sink: &mut K, t: &Multi) -> Result<(), WriteFault>
-    ensures puts { Puts result (K.taken sink.old) (K.taken sink.new) (type_text t.now) }
-    ensures same_name { K.name sink.new ≡ K.name sink.old }
-    ensures cause { HasCause (K.faults sink.old) (K.faults sink.new) result }
+    ensures { Writes K.Sink sink.old sink.new (type_text t.now) result }
 {
     put_all(sink, b"(")?;
     write_counts(sink, t.counts())?;

@@ -1,12 +1,11 @@
-ghost use Rattle.std.specs.Prelude.{◌≡◌, ◌≢◌, ◌<◌, ◌≤◌, ◌++◌, ◌-◌, ◌*◌, ◌==◌, IsTrue, All, drop, length, true, false, [], if◌then◌else◌, nat_lt, codes, decimal, slice_index_or};
+ghost use Rattle.std.specs.Prelude.{◌≡◌, ◌<◌, ◌==◌, IsTrue, All, length, [], if◌then◌else◌, decimal, slice_index_or};
 ghost use Rattle.std.specs.List.{flat_map};
-ghost use Rattle.alb_io.specs.Causes.{HasCause};
-ghost use Rattle.alb_io.specs.Puts.{Puts};
+ghost use Rattle.alb_io.specs.Writes.{Writes};
 ghost use Rattle.alb_mono.specs.Mono.{tree};
 ghost use Rattle.alb_mono.specs.Tree.{are_below};
 ghost use Rattle.alb_poly.specs.Poly.{AreResidues};
 ghost use Rattle.alb_poly.specs.Terms.{term, terms};
-ghost use Rattle.alb_print.specs.Text.{absolute, is_negative, value_text, leading_coefficient_text, later_coefficient_text, term_text, later_text, poly_text};
+ghost use Rattle.alb_print.specs.Text.{absolute, is_negative, value_text, leading_sign, later_sign, leading_coefficient_text, later_coefficient_text, leading_text, later_text, poly_text};
 
 use crate::behind::behind;
 use crate::mono::write_mono;
@@ -18,9 +17,7 @@ use gf_field::{Field, Residue};
 
 // Writes an absolute value, which is left out where it is 1.
 fn write_coefficient<K: Sink>(sink: &mut K, number: u64) -> Result<(), WriteFault>
-    ensures puts { Puts result (K.taken sink.old) (K.taken sink.new) (if number == 1 then [] else decimal number) }
-    ensures same_name { K.name sink.new ≡ K.name sink.old }
-    ensures cause { HasCause (K.faults sink.old) (K.faults sink.new) result }
+    ensures { Writes K.Sink sink.old sink.new (if number == 1 then [] else decimal number) result }
 {
     if number == 1 {
         return Ok(());
@@ -50,11 +47,27 @@ fn absolute(field: &Field, r: Residue) -> u64
 // Writes the absolute value of the signed residue, which is left out where it is 1.
 fn write_value<K: Sink>(sink: &mut K, field: &Field, r: Residue) -> Result<(), WriteFault>
     requires { r < field.now }
-    ensures puts { Puts result (K.taken sink.old) (K.taken sink.new) (value_text field.now r) }
-    ensures same_name { K.name sink.new ≡ K.name sink.old }
-    ensures cause { HasCause (K.faults sink.old) (K.faults sink.new) result }
+    ensures { Writes K.Sink sink.old sink.new (value_text field.now r) result }
 {
     write_coefficient(sink, absolute(field, r))
+}
+
+// The sign of a first term.
+fn leading_sign(field: &Field, r: Residue) -> &'static [u8]
+    ensures { result.now ≡ leading_sign field.now r }
+{
+    if is_negative(field, r) { b"-" } else { b"" }
+}
+
+// The sign of a term behind another one.
+fn later_sign(field: &Field, r: Residue) -> &'static [u8]
+    ensures { result.now ≡ later_sign field.now r }
+{
+    if is_negative(field, r) {
+        b" - "
+    } else {
+        b" + "
+    }
 }
 
 /// Writes the coefficient of a first term: `-` where the signed residue is negative, and its absolute value, which is left out
@@ -65,14 +78,9 @@ pub fn write_leading_coefficient<K: Sink>(
     r: Residue,
 ) -> Result<(), WriteFault>
     requires { r < field.now }
-    ensures puts { Puts result (K.taken sink.old) (K.taken sink.new) (leading_coefficient_text field.now r) }
-    ensures same_name { K.name sink.new ≡ K.name sink.old }
-    ensures cause { HasCause (K.faults sink.old) (K.faults sink.new) result }
+    ensures { Writes K.Sink sink.old sink.new (leading_coefficient_text field.now r) result }
 {
-    if is_negative(field, r) {
-        put_all(sink, b"-")?;
-        return write_value(sink, field, r);
-    }
+    put_all(sink, leading_sign(field, r))?;
     write_value(sink, field, r)
 }
 
@@ -84,15 +92,9 @@ pub fn write_later_coefficient<K: Sink>(
     r: Residue,
 ) -> Result<(), WriteFault>
     requires { r < field.now }
-    ensures puts { Puts result (K.taken sink.old) (K.taken sink.new) (later_coefficient_text field.now r) }
-    ensures same_name { K.name sink.new ≡ K.name sink.old }
-    ensures cause { HasCause (K.faults sink.old) (K.faults sink.new) result }
+    ensures { Writes K.Sink sink.old sink.new (later_coefficient_text field.now r) result }
 {
-    if is_negative(field, r) {
-        put_all(sink, b" - ")?;
-        return write_value(sink, field, r);
-    }
-    put_all(sink, b" + ")?;
+    put_all(sink, later_sign(field, r))?;
     write_value(sink, field, r)
 }
 
@@ -105,9 +107,7 @@ fn write_later<K: Sink>(
 ) -> Result<(), WriteFault>
     requires residue { t.now.coef < field.now }
     requires known { IsTrue (are_below (length letters.now) (tree t.now.mono)) }
-    ensures puts { Puts result (K.taken sink.old) (K.taken sink.new) (later_text field.now letters.now (term t.now)) }
-    ensures same_name { K.name sink.new ≡ K.name sink.old }
-    ensures cause { HasCause (K.faults sink.old) (K.faults sink.new) result }
+    ensures { Writes K.Sink sink.old sink.new (later_text field.now letters.now (term t.now)) result }
 {
     write_later_coefficient(sink, field, t.coef)?;
     write_mono(sink, letters, &t.mono)
@@ -122,9 +122,7 @@ fn write_first<K: Sink>(
 ) -> Result<(), WriteFault>
     requires residue { t.now.coef < field.now }
     requires known { IsTrue (are_below (length letters.now) (tree t.now.mono)) }
-    ensures puts { Puts result (K.taken sink.old) (K.taken sink.new) ((if is_negative field.now t.now.coef then codes "-" else []) ++ term_text field.now letters.now (term t.now)) }
-    ensures same_name { K.name sink.new ≡ K.name sink.old }
-    ensures cause { HasCause (K.faults sink.old) (K.faults sink.new) result }
+    ensures { Writes K.Sink sink.old sink.new (leading_text field.now letters.now (term t.now)) result }
 {
     write_leading_coefficient(sink, field, t.coef)?;
     write_mono(sink, letters, &t.mono)
@@ -139,9 +137,7 @@ fn write_others<K: Sink>(
 ) -> Result<(), WriteFault>
     requires residues { All (λ t. t.coef < field.now) others.now }
     requires known { All (λ t. IsTrue (are_below (length letters.now) (tree t.mono))) others.now }
-    ensures puts { Puts result (K.taken sink.old) (K.taken sink.new) (flat_map (later_text field.now letters.now) (terms others.now)) }
-    ensures same_name { K.name sink.new ≡ K.name sink.old }
-    ensures cause { HasCause (K.faults sink.old) (K.faults sink.new) result }
+    ensures { Writes K.Sink sink.old sink.new (flat_map (later_text field.now letters.now) (terms others.now)) result }
 {
     for t in others {
         write_later(sink, field, letters, t)?;
@@ -166,9 +162,7 @@ fn write_terms<K: Sink>(
 ) -> Result<(), WriteFault>
     requires residues { All (λ t. t.coef < field.now) list.now }
     requires known { All (λ t. IsTrue (are_below (length letters.now) (tree t.mono))) list.now }
-    ensures puts { Puts result (K.taken sink.old) (K.taken sink.new) (poly_text field.now letters.now (terms list.now)) }
-    ensures same_name { K.name sink.new ≡ K.name sink.old }
-    ensures cause { HasCause (K.faults sink.old) (K.faults sink.new) result }
+    ensures { Writes K.Sink sink.old sink.new (poly_text field.now letters.now (terms list.now)) result }
 {
     if list.is_empty() {
         return put_all(sink, b"0");
@@ -187,9 +181,7 @@ pub fn write_poly<K: Sink>(
 ) -> Result<(), WriteFault>
     requires residues { AreResidues field.now g.now }
     requires known { All (λ t. IsTrue (are_below (length letters.now) t.1)) g.now }
-    ensures puts { Puts result (K.taken sink.old) (K.taken sink.new) (poly_text field.now letters.now g.now) }
-    ensures same_name { K.name sink.new ≡ K.name sink.old }
-    ensures cause { HasCause (K.faults sink.old) (K.faults sink.new) result }
+    ensures { Writes K.Sink sink.old sink.new (poly_text field.now letters.now g.now) result }
 {
     write_terms(sink, field, letters, g.terms())
 }

@@ -17,6 +17,7 @@ use Rattle.alb_script.specs.declared.word.Word.{Word}
 use Rattle.alb_script.specs.declared.word.Word.TheVariants as word
 use Rattle.alb_script.specs.declared.command.Command.{Command}
 use Rattle.alb_script.specs.declared.command.Command.TheVariants as commands
+use Rattle.alb_script.specs.declared.error.BadCommand.{BadCommand}
 use Rattle.alb_script.specs.declared.error.CommandError.{CommandError}
 use Rattle.alb_script.specs.declared.error.CommandError.TheVariants as errors
 use Rattle.alb_script.specs.Words.{word_named, belongs, is_early, is_late}
@@ -116,36 +117,55 @@ asked_by total p letters word.Await at line = degree_at total at line >>= λ n. 
 asked_by total p letters word.Quit at line = alone Quit at line
 
 -- a word of the form
-abbrev pub known : Form → Option Word → Result Word CommandError
-known form None = Err errors.Unknown
-known form (Some w) = if belongs form w then Ok w else Err errors.Unknown
+abbrev pub of_form : Form → Option Word → Option Word
+of_form form None = None
+of_form form (Some w) = if belongs form w then Some w else None
 
--- a word that may stand before `build`, or behind it
-abbrev pub timely : Bool → Word → Result Word CommandError
-timely built w = if built && is_early w then Err errors.AlreadyBuilt else if not built && is_late w then Err errors.NotYetBuilt else Ok w
+-- where the first word begins; a line of blanks has none, and neither has one whose first byte that is no blank is `#`
+abbrev pub unless_comment : List ℕ → Option ℕ → Option ℕ
+unless_comment line None = None
+unless_comment line (Some start) = if slice_index line start == 35 then None else Some start
 
--- the command word that a text is, if it is one of the form and may stand here
-unfoldable pub word_of : Form → Bool → List ℕ → Result Word CommandError
-word_of form built text = known form (word_named text) >>= timely built
+abbrev pub word_start : List ℕ → Option ℕ
+word_start line = unless_comment line (dense line)
 
 -- how many bytes stand before the first blank
 abbrev pub word_length : List ℕ → ℕ
 word_length text = unwrap_or (position is_blank text) (length text)
 
--- what a line asks for whose first word begins at the byte `start`, or its first fault
-unfoldable pub asked_from : Form → Bool → ℕ → ℕ → List ℕ → ℕ → List ℕ → Result Asked CommandError
-asked_from form built total p letters start line =
-    let n = word_length (drop start line) in
-    word_of form built (take n (drop start line)) >>= λ w. asked_by total p letters w (start + n) line
+-- the text of the word that begins at the byte `start`
+abbrev pub word_at : ℕ → List ℕ → List ℕ
+word_at start line = take (word_length (drop start line)) (drop start line)
 
--- a line of blanks, or one whose first byte that is no blank is `#`, asks for nothing
+abbrev pub word_from : Form → List ℕ → Option ℕ → Option Word
+word_from form line None = None
+word_from form line (Some start) = of_form form (word_named (word_at start line))
+
+-- the command word of the form that a line begins with, if it begins with one
+unfoldable pub command_word : Form → List ℕ → Option Word
+command_word form line = word_from form line (word_start line)
+
+abbrev pub or_unknown : Option Word → Result Word CommandError
+or_unknown None = Err errors.Unknown
+or_unknown (Some w) = Ok w
+
+-- a word that may stand before `build`, or behind it
+abbrev pub timely : Bool → Word → Result Word CommandError
+timely built w = if built && is_early w then Err errors.AlreadyBuilt else if not built && is_late w then Err errors.NotYetBuilt else Ok w
+
+-- the word, if there is one and it may stand here
+unfoldable pub word_of : Bool → Option Word → Result Word CommandError
+word_of built w = or_unknown w >>= timely built
+
+-- what a line asks for whose first word begins at a byte; one with no word asks for nothing
 abbrev pub asked_at : Form → Bool → ℕ → ℕ → List ℕ → Option ℕ → List ℕ → Result Asked CommandError
 asked_at form built total p letters None line = Ok Blank
-asked_at form built total p letters (Some start) line = if slice_index line start == 35 then Ok Blank else asked_from form built total p letters start line
+asked_at form built total p letters (Some start) line =
+    word_of built (command_word form line) >>= λ w. asked_by total p letters w (start + word_length (drop start line)) line
 
 -- what a line asks for, or its first fault: in this form, before or behind `build`, up to this total degree, over a field of p elements and with these letters of the generators
 unfoldable pub asked : Form → Bool → ℕ → ℕ → List ℕ → List ℕ → Result Asked CommandError
-asked form built total p letters line = asked_at form built total p letters (dense line) line
+asked form built total p letters line = asked_at form built total p letters (word_start line) line
 
 -- ---- what was returned
 
@@ -199,6 +219,11 @@ IsPlain other = Unit {0}
 abbrev pub Gives : {X Y : Type 0} → (X → Y) → Result X CommandError → Result Y CommandError → Type 0
 Gives f (Ok x) read = read ≡ Ok (f x)
 Gives f (Err e) read = Fails e read
+
+-- what was returned, at a fault the error alone
+abbrev pub or_error : {X : Type 0} → Result X BadCommand → Result X CommandError
+or_error (Ok x) = Ok x
+or_error (Err bad) = Err bad.error
 
 -- a polynomial over p elements and n generators, within the limits
 pub record IsRead (p n : ℕ) (f : Poly) : Type 0 where

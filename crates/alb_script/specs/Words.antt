@@ -1,14 +1,10 @@
 -- The command words: which form has them, and when they may stand.
-use Rattle.std.specs.Prelude.{ℕ, Bool, true, false, ◌&&◌, ◌==◌, if◌then◌else◌, List, length, Option, None, Some, nat_eq, codes}
-use Rattle.std.specs.List.{starts_with}
+use Rattle.std.specs.Prelude.{ℕ, Bool, true, false, if◌then◌else◌, List, Option, None, Some, codes}
+use Rattle.alb_lex.specs.Words.{is_word}
 use Rattle.alb_script.specs.declared.form.Form.{Form}
 use Rattle.alb_script.specs.declared.form.Form.TheVariants as form
 use Rattle.alb_script.specs.declared.word.Word.{Word}
 use Rattle.alb_script.specs.declared.word.Word.TheVariants as word
-
--- the text is the word
-abbrev pub is_word : List ℕ → List ℕ → Bool
-is_word word text = starts_with nat_eq text word && (length text == length word)
 
 -- the command word that a text is
 abbrev pub word_named : List ℕ → Option Word

@@ -3,6 +3,7 @@
 ghost use Rattle.std.specs.Prelude.{◌≡◌};
 ghost use Rattle.alb_script.specs.Asked.{of_lex, of_syntax};
 
+use crate::word::Word;
 use alb_lex::LexError;
 use alb_syntax::SyntaxError;
 use thiserror::Error;
@@ -31,6 +32,13 @@ pub enum CommandError {
     /// There was no memory.
     #[error("out of memory")]
     NoMemory,
+}
+
+/// A line that is no command: the command word of the form that it begins with, and its first fault.
+#[derive(Clone, Copy, Debug, PartialEq, Eq)]
+pub struct BadCommand {
+    pub word: Option<Word>,
+    pub error: CommandError,
 }
 
 /// The error of a line that has no tokens.

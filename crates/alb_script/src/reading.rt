@@ -1,32 +1,20 @@
-ghost use Rattle.std.specs.Prelude.{◌≡◌, ◌≤◌, ◌+◌, ◌<◌, ◌==◌, not, length, take, drop, position, IfOk, IfSome, Option, Some, None, slice_index, MatchResult};
-ghost use Rattle.alb_lex.specs.Lexing.{is_blank, tokens_from};
-ghost use Rattle.alb_mono.specs.Letters.{alphabet};
-ghost use Rattle.alb_script.specs.Asked.{dense, word_length, place_at, tokens_at, poly_at, only_number, number_at, degree_at, alone, word_of, asked_by, asked_from, asked, view, Gives, IsRead, HasRead, IsPlain};
+//! The commands of the lines of a script.
 
+ghost use Rattle.std.specs.Prelude.{◌≡◌, ◌≤◌, ◌<◌, length, position, IfErr, IfOk, IfSome, MatchResult};
+ghost use Rattle.alb_lex.specs.Lexing.{is_blank};
+ghost use Rattle.alb_script.specs.Words.{word_named};
+ghost use Rattle.alb_script.specs.Asked.{word_length, of_form, word_start, word_at, command_word, word_of, asked, view, or_error, Gives, HasRead, IsPlain};
+
+use crate::argument::{Argument, asked_by, dense};
 use crate::command::Command;
-use crate::error::{CommandError, of_lex, of_syntax};
+use crate::error::{BadCommand, CommandError};
 use crate::form::Form;
+use crate::place::ScriptPlace;
 use crate::word::{Word, belongs, is_early, is_late, word_named};
-use alb_lex::{LexError, Token, TokenKind, tokens};
-use alb_mono::{Letters, NoMemory};
-use alb_poly::Poly;
-use alb_syntax::read_poly;
+use alb_lex::{is_blank, text_before, text_from};
+use alb_mono::Letters;
 use gf_field::Field;
 use std::alloc::Global;
-
-fn is_blank(b: u8) -> bool
-    ensures { result ≡ is_blank b }
-{
-    b == b' ' || b == b'\t' || b == b'\r'
-}
-
-// Where the first byte that is no blank stands.
-fn dense(text: &[u8]) -> Option<usize>
-    ensures value { result ≡ dense text.now }
-    ensures bound { IfSome result (λ k. k < length text.now) }
-{
-    text.iter().position(|b| !is_blank(*b))
-}
 
 // Where the first blank stands.
 fn first_blank(text: &[u8]) -> Option<usize>
@@ -47,133 +35,62 @@ fn word_length(text: &[u8]) -> usize
     }
 }
 
-// The text from a place on.
-fn text_from(line: &[u8], at: usize) -> &[u8]
-    requires { at ≤ length line.now }
-    ensures { result.now ≡ drop at line.now }
+// Where the first word begins, unless the line is blank or a comment.
+fn word_start(line: &[u8]) -> Option<usize>
+    ensures value { result ≡ word_start line.now }
+    ensures bound { IfSome result (λ k. k < length line.now) }
 {
-    &line[at..]
-}
-
-// The first bytes of a text.
-fn front(text: &[u8], count: usize) -> &[u8]
-    requires { count ≤ length text.now }
-    ensures { result.now ≡ take count text.now }
-{
-    &text[..count]
-}
-
-// The place of the first byte of the argument, or the end place.
-fn argument_place(line: &[u8], at: usize) -> u32
-    requires at { at ≤ length line.now }
-    requires short { length line.now ≤ 65536 }
-    ensures { result ≡ place_at at line.now }
-{
-    match dense(text_from(line, at)) {
-        Some(k) => (at + k + 1) as u32,
-        None => line.len() as u32 + 1,
-    }
-}
-
-// The tokens from a byte on.
-fn tokens_at(alloc: Global, line: &[u8], at: usize) -> Result<Vec<Token>, CommandError>
-    requires at { at ≤ length line.now }
-    requires short { length line.now ≤ 65536 }
-    ensures { Gives (λ v. v.items) result (tokens_at at line.now) }
-{
-    match tokens(alloc, line, at) {
-        Ok(list) => Ok(list),
-        Err(error) => Err(of_lex(error)),
-    }
-}
-
-// The polynomial from a byte on.
-#[tactic(auto, unfolding(crate::specs::Asked::poly_at))]
-fn poly_at(
-    alloc: Global,
-    field: &Field,
-    letters: &Letters,
-    line: &[u8],
-    at: usize,
-) -> Result<Poly, CommandError>
-    requires at { at ≤ length line.now }
-    requires short { length line.now ≤ 65536 }
-    ensures value { Gives (λ f. f) result (poly_at field.now letters.now at line.now) }
-    ensures read { IfOk result (λ f. IsRead field.now (length letters.now) f) }
-{
-    let list = tokens_at(alloc, line, at)?;
-    match read_poly(alloc, &list, line.len() as u32 + 1, letters, field) {
-        Ok(f) => Ok(f),
-        Err(error) => Err(of_syntax(error)),
-    }
-}
-
-// The one number that stands from a byte on.
-#[tactic(auto, unfolding(crate::specs::Asked::number_at))]
-fn number_at(alloc: Global, line: &[u8], at: usize) -> Result<u64, CommandError>
-    requires at { at ≤ length line.now }
-    requires short { length line.now ≤ 65536 }
-    ensures { Gives (λ n. n) result (number_at at line.now) }
-{
-    let bad = CommandError::BadArgument {
-        place: argument_place(line, at),
+    let Some(start) = dense(line) else {
+        return None;
     };
-    match tokens(alloc, line, at) {
-        Ok(list) => match list.as_slice() {
-            [token] => match token.kind {
-                TokenKind::Number(n) => Ok(n),
-                _ => Err(bad),
-            },
-            _ => Err(bad),
-        },
-        Err(LexError::NoMemory) => Err(CommandError::NoMemory),
-        Err(_) => Err(bad),
+    if line[start] == b'#' {
+        return None;
     }
+    Some(start)
 }
 
-// The degree that stands from a byte on, which is 1 to the total degree.
-#[tactic(auto, unfolding(crate::specs::Asked::degree_at))]
-fn degree_at(alloc: Global, total: u32, line: &[u8], at: usize) -> Result<u32, CommandError>
-    requires at { at ≤ length line.now }
-    requires short { length line.now ≤ 65536 }
-    ensures { Gives (λ n. n) result (degree_at total at line.now) }
+// The text of the word that begins at a byte.
+fn word_at(line: &[u8], start: usize) -> &[u8]
+    requires { start ≤ length line.now }
+    ensures { result.now ≡ word_at start line.now }
 {
-    let n = number_at(alloc, line, at)?;
-    if 1 <= n && n <= u64::from(total) {
-        Ok(n as u32)
-    } else {
-        Err(CommandError::BadArgument {
-            place: argument_place(line, at),
-        })
-    }
+    let text = text_from(line, start);
+    text_before(text, word_length(text))
 }
 
-// The command, where no argument stands from a byte on.
-fn alone(command: Command, line: &[u8], at: usize) -> Result<Command, CommandError>
-    requires at { at ≤ length line.now }
-    requires short { length line.now ≤ 65536 }
-    ensures value { Gives view result (alone (view command) at line.now) }
-    ensures same { IfOk result (λ c. c ≡ command) }
-{
-    match dense(text_from(line, at)) {
-        None => Ok(command),
-        Some(k) => Err(CommandError::BadArgument {
-            place: (at + k + 1) as u32,
-        }),
-    }
-}
-
-// The command word that a text is, if it is one of the form and may stand here.
-#[tactic(auto, unfolding(crate::specs::Asked::word_of))]
-fn word_of(text: &[u8], form: Form, built: bool) -> Result<Word, CommandError>
-    ensures { Gives (λ w. w) result (word_of form built text.now) }
+// The command word that a text is, if it is one of the form.
+fn word_in(form: Form, text: &[u8]) -> Option<Word>
+    ensures { result ≡ of_form form (word_named text.now) }
 {
     let Some(word) = word_named(text) else {
+        return None;
+    };
+    if belongs(form, word) {
+        Some(word)
+    } else {
+        None
+    }
+}
+
+// The command word of the form that a line begins with.
+#[tactic(auto, unfolding(crate::specs::Asked::command_word))]
+fn command_word(form: Form, line: &[u8]) -> Option<Word>
+    ensures { result ≡ command_word form line.now }
+{
+    let Some(start) = word_start(line) else {
+        return None;
+    };
+    word_in(form, word_at(line, start))
+}
+
+// The word, if there is one and it may stand here.
+#[tactic(auto, unfolding(crate::specs::Asked::word_of))]
+fn word_of(word: Option<Word>, built: bool) -> Result<Word, CommandError>
+    ensures { Gives (λ w. w) result (word_of built word) }
+{
+    let Some(word) = word else {
         return Err(CommandError::Unknown);
     };
-    if !belongs(form, word) {
-        return Err(CommandError::Unknown);
-    }
     if built && is_early(word) {
         return Err(CommandError::AlreadyBuilt);
     }
@@ -183,76 +100,64 @@ fn word_of(text: &[u8], form: Form, built: bool) -> Result<Word, CommandError>
     Ok(word)
 }
 
-// The identity from a byte on, over the letters a to z.
-#[tactic(auto, unfolding(alb_mono::specs::Letters::alphabet))]
-fn identity_at(alloc: Global, field: &Field, line: &[u8], at: usize) -> Result<Poly, CommandError>
-    requires at { at ≤ length line.now }
-    requires short { length line.now ≤ 65536 }
-    ensures value { Gives (λ f. f) result (poly_at field.now alphabet at line.now) }
-    ensures read { IfOk result (λ f. IsRead field.now 26 f) }
-{
-    poly_at(alloc, field, &Letters::all(), line, at)
-}
-
-// What a word asks for with the argument behind it.
-#[tactic(auto, unfolding(crate::specs::Asked::asked_by))]
-fn asked_by(
-    alloc: Global,
-    word: Word,
-    total: u32,
-    field: &Field,
-    letters: &Letters,
-    line: &[u8],
-    at: usize,
-) -> Result<Command, CommandError>
-    requires at { at ≤ length line.now }
-    requires short { length line.now ≤ 65536 }
-    ensures value { Gives view result (asked_by total field.now letters.now word at line.now) }
-    ensures read { IfOk result (λ c. HasRead field.now (length letters.now) c) }
-{
-    match word {
-        Word::Field => Ok(Command::Field(number_at(alloc, line, at)?)),
-        Word::Generators => {
-            let list = tokens_at(alloc, line, at)?;
-            Ok(Command::Generators(list, line.len() as u32 + 1))
-        }
-        Word::Identity => Ok(Command::Identity(identity_at(alloc, field, line, at)?)),
-        Word::Build => alone(Command::Build, line, at),
-        Word::Polynomial => Ok(Command::Polynomial(poly_at(alloc, field, letters, line, at)?)),
-        Word::Prove => Ok(Command::Prove(poly_at(alloc, field, letters, line, at)?)),
-        Word::Dimensions => alone(Command::Dimensions, line, at),
-        Word::Table => alone(Command::Table, line, at),
-        Word::Claim => Ok(Command::Claim(poly_at(alloc, field, letters, line, at)?)),
-        Word::Await => Ok(Command::Await(degree_at(alloc, total, line, at)?)),
-        Word::Quit => alone(Command::Quit, line, at),
-    }
-}
-
-// The command of a line, or its first fault.
-#[tactic(auto, unfolding(crate::specs::Asked::asked, crate::specs::Asked::asked_from))]
+// What a line asks for that begins with this command word, or its first fault.
+#[tactic(auto, unfolding(crate::specs::Asked::asked))]
 fn command_of(
     alloc: Global,
     line: &[u8],
-    form: Form,
-    built: bool,
-    total: u32,
+    place: ScriptPlace,
+    word: Option<Word>,
     field: &Field,
     letters: &Letters,
 ) -> Result<Command, CommandError>
-    requires { length line.now ≤ 65536 }
-    ensures exact { Gives view result (asked form built total field.now letters.now line.now) }
+    requires short { length line.now ≤ 65536 }
+    requires begins { word ≡ command_word place.form line.now }
+    ensures exact { Gives view result (asked place.form place.built place.total field.now letters.now line.now) }
     ensures read { IfOk result (λ c. HasRead field.now (length letters.now) c) }
 {
-    let Some(start) = dense(line) else {
+    let Some(start) = word_start(line) else {
         return Ok(Command::Blank);
     };
-    if line[start] == b'#' {
-        return Ok(Command::Blank);
+    let word = word_of(word, place.built)?;
+    let at = start + word_length(text_from(line, start));
+    asked_by(
+        alloc,
+        word,
+        place.total,
+        field,
+        letters,
+        &Argument { line, at },
+    )
+}
+
+/// What a line of a script asks for, or the command word that it begins with and its first fault, as `read_command` names it.
+///
+/// A line of blanks, a comment, and a line whose first word is none of the form's begin with no command word.
+///
+/// # Errors
+/// Those of `read_command`, in the same order.
+pub fn read_line(
+    alloc: Global,
+    line: &[u8],
+    place: ScriptPlace,
+    field: &Field,
+    letters: &Letters,
+) -> Result<Command, BadCommand>
+    requires { length line.now ≤ 65536 }
+    // The command, or the first fault, is that of the line.
+    ensures exact { Gives view (or_error result) (asked place.form place.built place.total field.now letters.now line.now) }
+    // A polynomial is over the field and over the letters that the word asks for.
+    ensures read { IfOk result (λ c. HasRead field.now (length letters.now) c) }
+    // No error tells want of memory inside another one.
+    ensures told { IfErr result (λ bad. IsPlain bad.error) }
+    // The word is the one that the line begins with.
+    ensures word { IfErr result (λ bad. bad.word ≡ command_word place.form line.now) }
+{
+    let word = command_word(place.form, line);
+    match command_of(alloc, line, place, word, field, letters) {
+        Ok(command) => Ok(command),
+        Err(error) => Err(BadCommand { word, error }),
     }
-    let text = text_from(line, start);
-    let count = word_length(text);
-    let word = word_of(front(text, count), form, built)?;
-    asked_by(alloc, word, total, field, letters, line, start + count)
 }
 
 /// What a line of a script asks for, or its first fault.
@@ -286,5 +191,9 @@ pub fn read_command(
     // No error tells want of memory inside another one.
     ensures told { MatchResult result (λ c. Unit {0}) (λ e. IsPlain e) }
 {
-    command_of(alloc, line, form, built, total, field, letters)
+    let place = ScriptPlace { form, built, total };
+    match read_line(alloc, line, place, field, letters) {
+        Ok(command) => Ok(command),
+        Err(bad) => Err(bad.error),
+    }
 }

@@ -1,6 +1,5 @@
-ghost use Rattle.std.specs.Prelude.{◌≡◌, ◌++◌, IsTrue, codes, decimal, false, length};
-ghost use Rattle.alb_io.specs.Causes.{HasCause};
-ghost use Rattle.alb_io.specs.Puts.{Puts};
+ghost use Rattle.std.specs.Prelude.{◌≡◌, IsTrue, codes, decimal, false};
+ghost use Rattle.alb_io.specs.Writes.{Writes};
 ghost use Rattle.alb_mono.specs.Mono.{tree};
 ghost use Rattle.alb_mono.specs.Tree.{are_below};
 ghost use Rattle.alb_mono.specs.Letters.{alphabet};
@@ -29,9 +28,7 @@ pub enum Refusal {
 
 /// Writes a line of a text and a number that is not negative, in decimal.
 pub fn write_numbered<K: Sink>(sink: &mut K, front: &[u8], number: u64) -> Result<(), WriteFault>
-    ensures puts { Puts result (K.taken sink.old) (K.taken sink.new) (line_of front.now (decimal number)) }
-    ensures same_name { K.name sink.new ≡ K.name sink.old }
-    ensures cause { HasCause (K.faults sink.old) (K.faults sink.new) result }
+    ensures { Writes K.Sink sink.old sink.new (line_of front.now (decimal number)) result }
 {
     put_all(sink, front)?;
     write_count(sink, number)?;
@@ -41,9 +38,7 @@ pub fn write_numbered<K: Sink>(sink: &mut K, front: &[u8], number: u64) -> Resul
 // Writes the line that names a term.
 fn write_term<K: Sink>(sink: &mut K, term: &Mono) -> Result<(), WriteFault>
     requires { IsTrue (are_below 26 (tree term.now)) }
-    ensures puts { Puts result (K.taken sink.old) (K.taken sink.new) (line_of (codes "refused 31: ") (mono_text alphabet false (tree term.now))) }
-    ensures same_name { K.name sink.new ≡ K.name sink.old }
-    ensures cause { HasCause (K.faults sink.old) (K.faults sink.new) result }
+    ensures { Writes K.Sink sink.old sink.new (line_of (codes "refused 31: ") (mono_text alphabet false (tree term.now))) result }
 {
     put_all(sink, b"refused 31: ")?;
     write_over_alphabet(sink, term)?;
@@ -54,18 +49,14 @@ fn write_term<K: Sink>(sink: &mut K, term: &Mono) -> Result<(), WriteFault>
 #[tactic(auto, unfolding(alb_mono::specs::Letters::alphabet))]
 fn write_over_alphabet<K: Sink>(sink: &mut K, term: &Mono) -> Result<(), WriteFault>
     requires { IsTrue (are_below 26 (tree term.now)) }
-    ensures puts { Puts result (K.taken sink.old) (K.taken sink.new) (mono_text alphabet false (tree term.now)) }
-    ensures same_name { K.name sink.new ≡ K.name sink.old }
-    ensures cause { HasCause (K.faults sink.old) (K.faults sink.new) result }
+    ensures { Writes K.Sink sink.old sink.new (mono_text alphabet false (tree term.now)) result }
 {
     write_mono(sink, &Letters::all(), term)
 }
 
 fn write_lex<K: Sink>(sink: &mut K, error: &LexError) -> Result<(), WriteFault>
     requires { is_lex_memory error.now ≡ false }
-    ensures puts { Puts result (K.taken sink.old) (K.taken sink.new) (lex_text error.now) }
-    ensures same_name { K.name sink.new ≡ K.name sink.old }
-    ensures cause { HasCause (K.faults sink.old) (K.faults sink.new) result }
+    ensures { Writes K.Sink sink.old sink.new (lex_text error.now) result }
 {
     match error {
         LexError::BadByte { place } => {
@@ -80,9 +71,7 @@ fn write_lex<K: Sink>(sink: &mut K, error: &LexError) -> Result<(), WriteFault>
 
 fn write_syntax<K: Sink>(sink: &mut K, error: &SyntaxError) -> Result<(), WriteFault>
     requires { is_syntax_memory error.now ≡ false }
-    ensures puts { Puts result (K.taken sink.old) (K.taken sink.new) (syntax_text error.now) }
-    ensures same_name { K.name sink.new ≡ K.name sink.old }
-    ensures cause { HasCause (K.faults sink.old) (K.faults sink.new) result }
+    ensures { Writes K.Sink sink.old sink.new (syntax_text error.now) result }
 {
     match error {
         SyntaxError::Expected { place } => {
@@ -106,9 +95,7 @@ fn write_syntax<K: Sink>(sink: &mut K, error: &SyntaxError) -> Result<(), WriteF
 
 fn write_command<K: Sink>(sink: &mut K, error: &CommandError) -> Result<(), WriteFault>
     requires { is_command_memory error.now ≡ false }
-    ensures puts { Puts result (K.taken sink.old) (K.taken sink.new) (command_text error.now) }
-    ensures same_name { K.name sink.new ≡ K.name sink.old }
-    ensures cause { HasCause (K.faults sink.old) (K.faults sink.new) result }
+    ensures { Writes K.Sink sink.old sink.new (command_text error.now) result }
 {
     match error {
         CommandError::Unknown => put_all(sink, b"refused 80\n"),
@@ -126,9 +113,7 @@ fn write_command<K: Sink>(sink: &mut K, error: &CommandError) -> Result<(), Writ
 fn write_identity<K: Sink>(sink: &mut K, error: &IdentityError) -> Result<(), WriteFault>
     requires memory { is_identity_memory error.now ≡ false }
     requires known { IsIdentityOverAlphabet error.now }
-    ensures puts { Puts result (K.taken sink.old) (K.taken sink.new) (or_nothing (told_by_identity error.now)) }
-    ensures same_name { K.name sink.new ≡ K.name sink.old }
-    ensures cause { HasCause (K.faults sink.old) (K.faults sink.new) result }
+    ensures { Writes K.Sink sink.old sink.new (or_nothing (told_by_identity error.now)) result }
 {
     match error {
         IdentityError::Zero => put_all(sink, b"refused 30\n"),
@@ -143,9 +128,7 @@ fn write_identity<K: Sink>(sink: &mut K, error: &IdentityError) -> Result<(), Wr
 fn write_problem<K: Sink>(sink: &mut K, error: &ProblemError) -> Result<(), WriteFault>
     requires memory { is_problem_memory error.now ≡ false }
     requires known { IsProblemOverAlphabet error.now }
-    ensures puts { Puts result (K.taken sink.old) (K.taken sink.new) (or_nothing (told_by_problem error.now)) }
-    ensures same_name { K.name sink.new ≡ K.name sink.old }
-    ensures cause { HasCause (K.faults sink.old) (K.faults sink.new) result }
+    ensures { Writes K.Sink sink.old sink.new (or_nothing (told_by_problem error.now)) result }
 {
     match error {
         ProblemError::NotInTable => put_all(sink, b"refused 1\n"),
@@ -173,9 +156,7 @@ pub fn write_refusal<K: Sink>(
 ) -> Result<(), WriteFault>
     requires memory { is_memory refusal.now ≡ false }
     requires known { IsOverAlphabet refusal.now }
-    ensures puts { Puts result (K.taken sink.old) (K.taken sink.new) (refusal_text refusal.now) }
-    ensures same_name { K.name sink.new ≡ K.name sink.old }
-    ensures cause { HasCause (K.faults sink.old) (K.faults sink.new) result }
+    ensures { Writes K.Sink sink.old sink.new (refusal_text refusal.now) result }
 {
     match refusal {
         Refusal::TooLong => put_all(sink, b"refused 84\n"),

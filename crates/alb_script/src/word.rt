@@ -1,9 +1,10 @@
 ghost use Rattle.std.specs.Prelude.{◌≡◌};
-ghost use Rattle.alb_script.specs.Words.{is_word, word_named, belongs, is_early, is_late};
+ghost use Rattle.alb_script.specs.Words.{word_named, belongs, is_early, is_late};
 
 use crate::form::Form;
+use alb_lex::is_word;
 
-/// The word of a command.
+/// The word that a command begins with.
 #[derive(Clone, Copy, Debug, PartialEq, Eq)]
 pub enum Word {
     Field,
@@ -17,13 +18,6 @@ pub enum Word {
     Claim,
     Await,
     Quit,
-}
-
-// Whether the text is the word.
-fn is_word(word: &[u8], text: &[u8]) -> bool
-    ensures { result ≡ is_word word.now text.now }
-{
-    text.starts_with(word) && text.len() == word.len()
 }
 
 /// The command word that a text is.

@@ -1,20 +1,14 @@
-use Rattle.std.proofs.Common.{codes, ◌++◌}
-use Rattle.alb_print.specs.Text.{named}
-use Rattle.alb_table.specs.End.{end_of}
-use Rattle.alb_answer.specs.Answers.{end_text}
-use Rattle.std.proofs.lemmas.Result.{err_from_is_err_and}
-use Rattle.alb_io.proofs.Fronts.{AppendsFront-more, AppendsFront-then, Puts-then}
+use Rattle.alb_io.proofs.Writers.{Writes-exit, Writes-more, Writes-then}
 use Rattle.alb_answer.proofs.answer.write_built.Goals as goal
 
-pub returns-in_err-write_named-clause-puts : goal.returns-in_err-write_named-clause-puts
-returns-in_err-write_named-clause-puts g c =
-    let p = err_from_is_err_and c.from_residual.result c.from_residual.ensures.1 in
-    rw p.1 (AppendsFront-more _ _ (named (codes "built ") c.args.degree) ((end_text (end_of c.args.end.now)) ++ (codes "\n")) (rw c.from.ensures at c.in_err-write_named.ensures.puts))
+pub returns-in_err-write_named : goal.returns-in_err-write_named
+returns-in_err-write_named g c =
+    Writes-exit _ _ c.from_residual.ensures.1 (Writes-more _ (rw c.from.ensures at c.in_err-write_named.ensures))
 
-pub returns-in_err-write_end-clause-puts : goal.returns-in_err-write_end-clause-puts
-returns-in_err-write_end-clause-puts g c =
-    let p = err_from_is_err_and c.from_residual-in_err-write_end.result c.from_residual-in_err-write_end.ensures.1 in
-    rw p.1 (AppendsFront-then _ _ _ (named (codes "built ") c.args.degree) _ (rw c.from.ensures at c.in_ok-write_named.ensures.puts) (AppendsFront-more _ _ (end_text (end_of c.args.end.now)) (codes "\n") c.in_err-write_end.ensures.puts))
+pub returns-in_err-write_end : goal.returns-in_err-write_end
+returns-in_err-write_end g c =
+    Writes-exit _ _ c.from_residual-in_err-write_end.ensures.1 (Writes-then (rw c.from.ensures at c.in_ok-write_named.ensures) (Writes-more _ c.in_err-write_end.ensures))
 
-pub returns-clause-puts : goal.returns-clause-puts
-returns-clause-puts g c = Puts-then c.put_all.result _ _ _ (named (codes "built ") c.args.degree) ((end_text (end_of c.args.end.now)) ++ (codes "\n")) (rw c.from.ensures at c.in_ok-write_named.ensures.puts) (Puts-then c.put_all.result _ _ _ (end_text (end_of c.args.end.now)) (codes "\n") c.in_ok-write_end.ensures.puts c.put_all.ensures.puts)
+pub returns : goal.returns
+returns g c =
+    Writes-then (rw c.from.ensures at c.in_ok-write_named.ensures) (Writes-then c.in_ok-write_end.ensures c.put_all.ensures)

@@ -1,13 +1,10 @@
-use Rattle.std.proofs.Common.{codes}
-use Rattle.alb_print.specs.Text.{named}
-use Rattle.std.proofs.lemmas.Result.{err_from_is_err_and}
-use Rattle.alb_io.proofs.Fronts.{AppendsFront-more, Puts-then}
+use Rattle.alb_io.proofs.Writers.{Writes-exit, Writes-more, Writes-then}
 use Rattle.alb_answer.proofs.answer.write_stopped.Goals as goal
 
-pub returns-in_err-write_named-clause-puts : goal.returns-in_err-write_named-clause-puts
-returns-in_err-write_named-clause-puts g c =
-    let p = err_from_is_err_and c.from_residual.result c.from_residual.ensures.1 in
-    rw p.1 (AppendsFront-more _ _ (named (codes ", stopped: ") c.args.count) c.args.what.now c.in_err-write_named.ensures.puts)
+pub returns-in_err-write_named : goal.returns-in_err-write_named
+returns-in_err-write_named g c =
+    Writes-exit _ _ c.from_residual.ensures.1 (Writes-more _ c.in_err-write_named.ensures)
 
-pub returns-clause-puts : goal.returns-clause-puts
-returns-clause-puts g c = Puts-then c.put_all.result _ _ _ (named (codes ", stopped: ") c.args.count) c.args.what.now c.in_ok-write_named.ensures.puts c.put_all.ensures.puts
+pub returns : goal.returns
+returns g c =
+    Writes-then c.in_ok-write_named.ensures c.put_all.ensures

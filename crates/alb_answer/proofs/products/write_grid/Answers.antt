@@ -1,44 +1,41 @@
-use Rattle.std.proofs.Common.{◌^◌, ◌+◌, subst, rules, arith, length, ◌<◌, ◌≡◌, sym, ap, ◌∙◌}
+use Rattle.std.proofs.Common.{◌^◌, ◌+◌, rules, arith, length, ◌<◌, ◌≡◌, sym, ap, ◌∙◌}
 use Rattle.std.specs.List.{flat_map}
-use Rattle.std.specs.Io.KnownBytes.{Appends}
-use Rattle.std.proofs.KnownBytes.{Appends-nil}
-use Rattle.std.proofs.lemmas.Result.{err_from_is_err_and}
-use Rattle.alb_io.proofs.Fronts.{Front, Front-all}
-use Rattle.alb_print.proofs.Writes.{Front-text, Front-fault}
-use Rattle.alb_table.specs.Grid.{cells_of, rectangle}
-use Rattle.alb_answer.specs.Answers.{product_line, row_pairs}
+use Rattle.alb_io.proofs.Writers.{Writes-exit, Writes-none, Writes-text, Writing-start, Writing-more, Writing-fails, Writing-all}
+use Rattle.alb_table.specs.Grid.{rectangle}
+use Rattle.alb_answer.specs.Answers.{product_line}
 use Rattle.alb_table.specs.PartView.{elems}
-use Rattle.alb_answer.proofs.AnswerLemmas.{rectangle-at, rectangle-end, rectangle-empty, rectangle-below, row-below}
+use Rattle.alb_answer.proofs.AnswerLemmas.{rectangle-start, rectangle-at, rectangle-end, rectangle-empty, rectangle-below, row-below}
 use Rattle.alb_answer.proofs.products.write_grid.Goals as goal
 
-pub returns-in_err-write_row-clause-puts : goal.returns-in_err-write_row-clause-puts
-returns-in_err-write_row-clause-puts g c =
-    let p = err_from_is_err_and c.from_residual.result c.from_residual.ensures.1 in
-    let q = rectangle-at (product_line c.args.tables.now.p c.args.letters.now c.args.tables.now.parts) c.args.g.now.left c.args.g.now.lefts c.args.g.now.right c.args.g.now.rights c.loop-i.i c.loop-i-test.true in
-    rw p.1 (Front-fault _ (flat_map (product_line c.args.tables.now.p c.args.letters.now c.args.tables.now.parts) (row_pairs (c.args.g.now.left + c.loop-i.i) c.args.g.now.right c.args.g.now.rights)) _ _ _ _ (subst (λ rest. Front (flat_map (product_line c.args.tables.now.p c.args.letters.now c.args.tables.now.parts) (cells_of c.args.g.now)) rest (g.K.Sink.taken c.args.sink.now) (g.K.Sink.taken c.loop-i.sink)) q c.loop-i.invariant.front) c.in_err-write_row.ensures.puts)
+pub loop-i-init : goal.loop-i-init
+loop-i-init g c = Writing-start _ (ap (flat_map (product_line c.args.tables.now.p c.args.letters.now c.args.tables.now.parts)) (sym (rectangle-start c.args.g.now.left c.args.g.now.lefts c.args.g.now.right c.args.g.now.rights)))
+
+pub returns-in_err-write_row : goal.returns-in_err-write_row
+returns-in_err-write_row g c =
+    Writes-exit _ _ c.from_residual.ensures.1
+    (Writing-fails _ c.loop-i.invariant c.in_err-write_row.ensures
+    (rectangle-at (product_line c.args.tables.now.p c.args.letters.now c.args.tables.now.parts) c.args.g.now.left c.args.g.now.lefts c.args.g.now.right c.args.g.now.rights c.loop-i.i c.loop-i-test.true))
 
 pub loop-i-preserved : goal.loop-i-preserved
 loop-i-preserved g c =
-    let q = rectangle-at (product_line c.args.tables.now.p c.args.letters.now c.args.tables.now.parts) c.args.g.now.left c.args.g.now.lefts c.args.g.now.right c.args.g.now.rights c.loop-i.i c.loop-i-test.true in
-    record {
-      front = Front-text _ (flat_map (product_line c.args.tables.now.p c.args.letters.now c.args.tables.now.parts) (row_pairs (c.args.g.now.left + c.loop-i.i) c.args.g.now.right c.args.g.now.rights)) _ _ _ _ (subst (λ rest. Front (flat_map (product_line c.args.tables.now.p c.args.letters.now c.args.tables.now.parts) (cells_of c.args.g.now)) rest (g.K.Sink.taken c.args.sink.now) (g.K.Sink.taken c.loop-i.sink)) q c.loop-i.invariant.front) c.in_ok-write_row.ensures.puts;
-      same_name = search rules;
-      later = search rules;
-    }
+    Writing-more c.loop-i.invariant c.in_ok-write_row.ensures
+    (rectangle-at (product_line c.args.tables.now.p c.args.letters.now c.args.tables.now.parts) c.args.g.now.left c.args.g.now.lefts c.args.g.now.right c.args.g.now.rights c.loop-i.i c.loop-i-test.true)
 
-pub returns-clause-puts : goal.returns-clause-puts
-returns-clause-puts g c = Front-all (flat_map (product_line c.args.tables.now.p c.args.letters.now c.args.tables.now.parts) (cells_of c.args.g.now)) _ _ _ c.loop-i.invariant.front (rectangle-end (product_line c.args.tables.now.p c.args.letters.now c.args.tables.now.parts) c.args.g.now.left c.args.g.now.lefts c.args.g.now.right c.args.g.now.rights c.loop-i.i (omega arith))
+pub returns : goal.returns
+returns g c =
+    Writing-all c.loop-i.invariant
+    (rectangle-end (product_line c.args.tables.now.p c.args.letters.now c.args.tables.now.parts) c.args.g.now.left c.args.g.now.lefts c.args.g.now.right c.args.g.now.rights c.loop-i.i (omega arith))
 
 pub write_row-requires-clause-pairs : goal.write_row-requires-clause-pairs
 write_row-requires-clause-pairs g c =
     rectangle-below (length (elems c.args.tables.now.parts)) c.args.g.now.left c.args.g.now.lefts c.args.g.now.right c.args.g.now.rights c.loop-i.i c.requires.pairs c.loop-i-test.true
 
-pub returns-then-g-eq0-clause-puts : goal.returns-then-g-eq0-clause-puts
-returns-then-g-eq0-clause-puts g c =
-    let z : c.args.g.now.rights ≡ 0 = search rules in
-    let e = ap (λ m. flat_map (product_line c.args.tables.now.p c.args.letters.now c.args.tables.now.parts) (rectangle c.args.g.now.left c.args.g.now.lefts c.args.g.now.right m)) z
+pub returns-then-g-eq0 : goal.returns-then-g-eq0
+returns-then-g-eq0 g c =
+    let none : c.args.g.now.rights ≡ 0 = search rules in
+    let empty = ap (λ n. flat_map (product_line c.args.tables.now.p c.args.letters.now c.args.tables.now.parts) (rectangle c.args.g.now.left c.args.g.now.lefts c.args.g.now.right n)) none
     ∙ ap (flat_map (product_line c.args.tables.now.p c.args.letters.now c.args.tables.now.parts)) (rectangle-empty c.args.g.now.left c.args.g.now.lefts c.args.g.now.right) in
-    subst (λ text. Appends (g.K.Sink.taken c.args.sink.now) (g.K.Sink.taken c.args.sink.now) text) (sym e) (Appends-nil (g.K.Sink.taken c.args.sink.now))
+    Writes-text (sym empty) (Writes-none _)
 
 pub overflow_add-g : goal.overflow_add-g
 overflow_add-g g c =

@@ -1,19 +1,14 @@
-use Rattle.std.proofs.Common.{codes, ◌++◌}
-use Rattle.std.proofs.lemmas.Result.{err_from_is_err_and}
-use Rattle.alb_io.proofs.Fronts.{AppendsFront-more, AppendsFront-then, Puts-then}
-use Rattle.alb_print.specs.Text.{named}
-use Rattle.alb_evidence.specs.Texts.{signed_text}
+use Rattle.alb_io.proofs.Writers.{Writes-exit, Writes-more, Writes-then}
 use Rattle.alb_evidence.proofs.derivation.write_item.Goals as goal
 
-pub returns-in_err-put_all-clause-puts : goal.returns-in_err-put_all-clause-puts
-returns-in_err-put_all-clause-puts g c =
-    let p = err_from_is_err_and c.from_residual.result c.from_residual.ensures.1 in
-    rw p.1 (AppendsFront-more _ _ (codes " ") (signed_text c.args.field.now c.args.c ++ (named (codes "*") c.args.earlier)) c.in_err-put_all.ensures.puts)
+pub returns-in_err-put_all : goal.returns-in_err-put_all
+returns-in_err-put_all g c =
+    Writes-exit _ _ c.from_residual.ensures.1 (Writes-more _ c.in_err-put_all.ensures)
 
-pub returns-in_err-write_signed-clause-puts : goal.returns-in_err-write_signed-clause-puts
-returns-in_err-write_signed-clause-puts g c =
-    let p = err_from_is_err_and c.from_residual-in_err-write_signed.result c.from_residual-in_err-write_signed.ensures.1 in
-    rw p.1 (AppendsFront-then _ _ _ (codes " ") _ c.in_ok-put_all.ensures.puts (AppendsFront-more _ _ (signed_text c.args.field.now c.args.c) (named (codes "*") c.args.earlier) c.in_err-write_signed.ensures.puts))
+pub returns-in_err-write_signed : goal.returns-in_err-write_signed
+returns-in_err-write_signed g c =
+    Writes-exit _ _ c.from_residual-in_err-write_signed.ensures.1 (Writes-then c.in_ok-put_all.ensures (Writes-more _ c.in_err-write_signed.ensures))
 
-pub returns-clause-puts : goal.returns-clause-puts
-returns-clause-puts g c = Puts-then c.write_named.result _ _ _ (codes " ") _ c.in_ok-put_all.ensures.puts (Puts-then c.write_named.result _ _ _ (signed_text c.args.field.now c.args.c) (named (codes "*") c.args.earlier) c.in_ok-write_signed.ensures.puts (c.write_named.ensures.puts))
+pub returns : goal.returns
+returns g c =
+    Writes-then c.in_ok-put_all.ensures (Writes-then c.in_ok-write_signed.ensures c.write_named.ensures)

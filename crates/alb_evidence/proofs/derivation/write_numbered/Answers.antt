@@ -1,26 +1,22 @@
-use Rattle.std.proofs.Common.{◌+◌, map, subst, rules, arith}
-use Rattle.std.proofs.lemmas.Result.{err_from_is_err_and}
-use Rattle.alb_io.proofs.Fronts.{Front, Front-all}
+use Rattle.std.proofs.Common.{◌+◌, arith, refl}
 use Rattle.alb_deriv.specs.Views.{line}
-use Rattle.alb_print.proofs.Writes.{Front-text, Front-fault}
-use Rattle.alb_evidence.specs.Texts.{counted, line_text}
+use Rattle.alb_evidence.specs.Texts.{line_text}
 use Rattle.alb_evidence.proofs.WriteLemmas.{counted-map-at, counted-map-end}
+use Rattle.alb_io.proofs.Writers.{Writes-exit, Writing-start, Writing-more, Writing-fails, Writing-all}
 use Rattle.alb_evidence.proofs.derivation.write_numbered.Goals as goal
 
-pub returns-in_err-write_line-clause-puts : goal.returns-in_err-write_line-clause-puts
-returns-in_err-write_line-clause-puts g c =
-    let p = err_from_is_err_and c.from_residual.result c.from_residual.ensures.1 in
-    let q = counted-map-at line (line_text c.args.field.now c.args.letters.now) (c.loop-i.i + 1) c.args.lines.now c.loop-i.i c.index-lines-i.result c.loop-i-test.true c.index-lines-i.is in
-    rw p.1 (Front-fault _ (line_text c.args.field.now c.args.letters.now (c.loop-i.i + 1) (line c.index-lines-i.result)) _ _ _ _ (subst (λ rest. Front (counted (line_text c.args.field.now c.args.letters.now) 1 (map line c.args.lines.now)) rest (g.K.Sink.taken c.args.sink.now) (g.K.Sink.taken c.loop-i.sink)) q c.loop-i.invariant.front) c.in_err-write_line.ensures.puts)
+pub loop-i-init : goal.loop-i-init
+loop-i-init g c = Writing-start _ refl
+
+pub returns-in_err-write_line : goal.returns-in_err-write_line
+returns-in_err-write_line g c =
+    let here = counted-map-at line (line_text c.args.field.now c.args.letters.now) (c.loop-i.i + 1) c.args.lines.now c.loop-i.i c.index-lines-i.result c.loop-i-test.true c.index-lines-i.is in
+    Writes-exit _ _ c.from_residual.ensures.1 (Writing-fails _ c.loop-i.invariant c.in_err-write_line.ensures here)
 
 pub loop-i-preserved : goal.loop-i-preserved
 loop-i-preserved g c =
-    let q = counted-map-at line (line_text c.args.field.now c.args.letters.now) (c.loop-i.i + 1) c.args.lines.now c.loop-i.i c.index-lines-i.result c.loop-i-test.true c.index-lines-i.is in
-    record {
-      front = Front-text _ (line_text c.args.field.now c.args.letters.now (c.loop-i.i + 1) (line c.index-lines-i.result)) _ _ _ _ (subst (λ rest. Front (counted (line_text c.args.field.now c.args.letters.now) 1 (map line c.args.lines.now)) rest (g.K.Sink.taken c.args.sink.now) (g.K.Sink.taken c.loop-i.sink)) q c.loop-i.invariant.front) c.in_ok-write_line.ensures.puts;
-      same_name = search rules;
-      later = search rules;
-    }
+    let here = counted-map-at line (line_text c.args.field.now c.args.letters.now) (c.loop-i.i + 1) c.args.lines.now c.loop-i.i c.index-lines-i.result c.loop-i-test.true c.index-lines-i.is in
+    Writing-more c.loop-i.invariant c.in_ok-write_line.ensures here
 
-pub returns-clause-puts : goal.returns-clause-puts
-returns-clause-puts g c = Front-all (counted (line_text c.args.field.now c.args.letters.now) 1 (map line c.args.lines.now)) _ _ _ c.loop-i.invariant.front (counted-map-end line (line_text c.args.field.now c.args.letters.now) (c.loop-i.i + 1) c.args.lines.now c.loop-i.i (omega arith))
+pub returns : goal.returns
+returns g c = Writing-all c.loop-i.invariant (counted-map-end line (line_text c.args.field.now c.args.letters.now) (c.loop-i.i + 1) c.args.lines.now c.loop-i.i (omega arith))

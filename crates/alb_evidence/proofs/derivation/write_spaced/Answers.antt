@@ -1,14 +1,10 @@
-use Rattle.std.proofs.Common.{codes, false}
-use Rattle.std.proofs.lemmas.Result.{err_from_is_err_and}
-use Rattle.alb_io.proofs.Fronts.{AppendsFront-more, Puts-then}
-use Rattle.alb_mono.specs.Mono.{tree}
-use Rattle.alb_print.specs.Text.{mono_text}
+use Rattle.alb_io.proofs.Writers.{Writes-exit, Writes-more, Writes-then}
 use Rattle.alb_evidence.proofs.derivation.write_spaced.Goals as goal
 
-pub returns-in_err-put_all-clause-puts : goal.returns-in_err-put_all-clause-puts
-returns-in_err-put_all-clause-puts g c =
-    let p = err_from_is_err_and c.from_residual.result c.from_residual.ensures.1 in
-    rw p.1 (AppendsFront-more _ _ (codes " ") (mono_text c.args.letters.now false (tree c.args.m.now)) c.in_err-put_all.ensures.puts)
+pub returns-in_err-put_all : goal.returns-in_err-put_all
+returns-in_err-put_all g c =
+    Writes-exit _ _ c.from_residual.ensures.1 (Writes-more _ c.in_err-put_all.ensures)
 
-pub returns-clause-puts : goal.returns-clause-puts
-returns-clause-puts g c = Puts-then c.write_mono.result _ _ _ (codes " ") (mono_text c.args.letters.now false (tree c.args.m.now)) c.in_ok-put_all.ensures.puts (c.write_mono.ensures.puts)
+pub returns : goal.returns
+returns g c =
+    Writes-then c.in_ok-put_all.ensures c.write_mono.ensures
