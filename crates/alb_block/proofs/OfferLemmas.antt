@@ -22,8 +22,13 @@ use Rattle.alb_reduce.specs.Reduction.{Reduction, kept, AddsPivot}
 use Rattle.alb_subst.specs.Sums.{HasEntries, instance_row}
 use Rattle.alb_subst.specs.Tuples.{IsTupleOf, AreTuples}
 use Rattle.alb_block.specs.Instances.{columns_of, Setting, IsInstance, vector_over, instance_vector, all_instances, listed_instances, SpansInstances, AreOrigins}
-use Rattle.alb_block.specs.Offers.{AreDifferent, HasPivots, IsRowOf, AreKept, HasBefore, Lacks, HasMore}
+use Rattle.alb_block.specs.Offers.{AreDifferent, HasPivots, IsRowOf, AreKept, HasBefore, HasMore}
 use Rattle.alb_block.proofs.ListLemmas.{in_place, place_in}
+
+-- what is still to come of the form k: the span has its instances but for some tuples
+pub record Lacks (s : Setting) (r : Reduction) (k : ℕ) (tuples : List (List ℕ)) : Type 0 where
+  pub each : Each (IsTupleOf s.parts (form_at s.forms k).degree s.at) tuples
+  pub others : (x : List ℕ) → IsTupleOf s.parts (form_at s.forms k).degree s.at x → IsIn x tuples ⊎ InSpan s.p (kept r) (instance_vector s (k, x))
 
 -- ---- counting
 

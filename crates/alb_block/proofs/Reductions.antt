@@ -11,10 +11,10 @@ use Rattle.alb_rows.specs.Row.{Cells, ColumnsBelow, entry, IsRowOver, LeadsWith}
 use Rattle.alb_rows.specs.Span.{InSpan, ArePivots, rows_of}
 use Rattle.alb_rows.proofs.RowLemmas.{entry_past, leads_first}
 use Rattle.alb_rows.proofs.SpanLemmas.{difference_zero}
-use Rattle.alb_reduce.specs.Echelon.{IsCleared, AreTakenOff, IsClearedAt, AreClearedAt, NewPivot, IsAscendingBelow, IsKept}
+use Rattle.alb_reduce.specs.Echelon.{IsCleared, IsClearedAt, AreClearedAt, NewPivot, IsAscendingBelow, IsKept}
 use Rattle.alb_reduce.proofs.DiagonalLemmas.{zero_mod, add_zeros, mul_zero_right}
 use Rattle.alb_reduce.proofs.StateLemmas.{row_below}
-use Rattle.alb_reduce.proofs.PlaceLemmas.{taken_none, taken_more}
+use Rattle.alb_reduce.proofs.PlaceLemmas.{AreTakenOff, taken_none, taken_more}
 use Rattle.alb_reduce.proofs.EchelonLemmas.{cleared_at, dependent, new_pivot, positive, ascending_none, ascending_skip, ascending_more, form_pivots}
 use Rattle.alb_block.proofs.Vectors.{cells_of, entry-cells, cells-over, cells-below}
 

@@ -1,13 +1,17 @@
 -- What the rows keep while the instances of a type are offered.
-use Rattle.std.specs.Prelude.{◌≡◌, ℕ, false, ◌<◌, List, [], ◌∷◌, length, ◌⊎◌}
+use Rattle.std.specs.Prelude.{◌≡◌, ℕ, false, ◌<◌, List, [], ◌∷◌, length}
 use Rattle.gf_field.specs.Modular.{IsSameMod}
 use Rattle.alb_mono.specs.Listing.{Each, IsIn}
-use Rattle.alb_poly.specs.Consequence.{form_at}
 use Rattle.alb_rows.specs.Row.{Cells, entry}
 use Rattle.alb_rows.specs.Span.{InSpan, SpanWithin, SameSpan, IsPivot}
 use Rattle.alb_reduce.specs.Reduction.{Reduction, kept}
-use Rattle.alb_subst.specs.Tuples.{IsTupleOf}
+use Rattle.alb_block.specs.declared.offers.Sources.{Sources}
+use Rattle.alb_block.specs.Asked.{setting}
 use Rattle.alb_block.specs.Instances.{columns_of, Setting, IsInstance, instance_vector, listed_instances}
+
+-- the forms of the rules over the table, at the type
+abbrev pub setting_from : Sources → Setting
+setting_from s = setting s.rules.now s.tables.now s.at.now
 
 -- no number twice
 abbrev pub AreDifferent : List ℕ → Type 0
@@ -38,11 +42,6 @@ pub record AreKept (s : Setting) (r : Reduction) (names : List (ℕ × List ℕ)
 -- the span has all instances of the forms before the form k
 abbrev pub HasBefore : Setting → Reduction → ℕ → Type 0
 HasBefore s r k = (name : ℕ × List ℕ) → IsInstance s name → name.0 < k → InSpan s.p (kept r) (instance_vector s name)
-
--- what is still to come of the form k: the span has its instances but for some tuples
-pub record Lacks (s : Setting) (r : Reduction) (k : ℕ) (tuples : List (List ℕ)) : Type 0 where
-  pub each : Each (IsTupleOf s.parts (form_at s.forms k).degree s.at) tuples
-  pub others : (x : List ℕ) → IsTupleOf s.parts (form_at s.forms k).degree s.at x → IsIn x tuples ⊎ InSpan s.p (kept r) (instance_vector s (k, x))
 
 -- the span has grown by the instance
 pub record HasMore (s : Setting) (old new : Reduction) (name : ℕ × List ℕ) : Type 0 where

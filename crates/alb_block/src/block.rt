@@ -9,7 +9,7 @@ ghost use Rattle.alb_block.specs.Meaning.{IsBlockAt};
 ghost use Rattle.alb_block.specs.Opened.{Opens};
 
 use crate::error::BlockStop;
-use crate::offers::{Offers, offer_all};
+use crate::offers::{Offers, Sources, offer_all};
 use alb_mono::Multi;
 use alb_poly::Rules;
 use alb_reduce::Reduced;
@@ -60,7 +60,13 @@ pub fn reduce_block(
     ensures block { IfOk result (λ b. IsBlockAt (forms rules.now) tables.now t.now b.reduced (map origin_view b.origins.items)) }
 {
     let columns = open_columns(alloc, tables, t)?;
-    let Offers { echelon, origins } = offer_all(alloc, rules, tables, t, &columns)?;
+    let from = Sources {
+        rules,
+        tables,
+        at: t,
+        columns: &columns,
+    };
+    let Offers { echelon, origins } = offer_all(alloc, &from)?;
     let reduced = echelon.close()?;
     prove!(tables.degree() > 0);
     prove!(reduced.pivots().len() <= usize::MAX);

@@ -9,8 +9,7 @@ ghost use Rattle.alb_reduce.specs.Reduction.{Reduction};
 ghost use Rattle.alb_table.specs.PartView.{origin_view};
 ghost use Rattle.alb_table.specs.RightFor.{rules_view, AreRules, IsRightFor};
 ghost use Rattle.alb_block.specs.Instances.{Setting, IsInstance, columns_of};
-ghost use Rattle.alb_block.specs.Offers.{IsRowOf, AreKept, HasBefore, HasMore};
-ghost use Rattle.alb_block.specs.Asked.{setting};
+ghost use Rattle.alb_block.specs.Offers.{setting_from, IsRowOf, AreKept, HasBefore, HasMore};
 
 use alb_mono::{Multi, NoMemory};
 use alb_poly::Rules;
@@ -20,6 +19,15 @@ use alb_subst::{Columns, Instances, row_of};
 use alb_table::{Origin, Tables};
 use arrayvec::ArrayVec;
 use std::alloc::Global;
+
+// What a block is made from: rules with a table, a type, and its columns.
+#[derive(Clone, Copy)]
+pub(crate) struct Sources<'a> {
+    pub rules: &'a Rules,
+    pub tables: &'a Tables,
+    pub at: &'a Multi,
+    pub columns: &'a Columns,
+}
 
 // The rows of the instances that were offered, and the instances that gave them pivots.
 #[derive(Drop)]
@@ -60,58 +68,44 @@ fn offer_row(
 }
 
 // Offers all instances of the form k.
-fn offer_form(
-    alloc: Global,
-    rules: &Rules,
-    tables: &Tables,
-    t: &Multi,
-    columns: &Columns,
-    k: u32,
-    offers: Offers,
-) -> Result<Offers, NoMemory>
-    requires rules { AreRules (rules_view rules.now) }
-    requires right { IsRightFor (rules_view rules.now) tables.now }
-    requires long { length t.now ≡ length tables.now.target }
-    requires within { type_le t.now tables.now.target ≡ true }
-    requires columns_are { columns.now ≡ columns_of tables.now.parts t.now }
-    requires form { k < length rules.now.linears.items }
-    requires kept { AreKept (setting rules.now tables.now t.now) offers.echelon (map origin_view offers.origins.items) }
-    requires before { HasBefore (setting rules.now tables.now t.now) offers.echelon k }
-    ensures kept { IfOk result (λ r. AreKept (setting rules.now tables.now t.now) r.echelon (map origin_view r.origins.items)) }
-    ensures before { IfOk result (λ r. HasBefore (setting rules.now tables.now t.now) r.echelon (k + 1)) }
+fn offer_form(alloc: Global, from: &Sources, k: u32, offers: Offers) -> Result<Offers, NoMemory>
+    requires rules { AreRules (rules_view from.now.rules.now) }
+    requires right { IsRightFor (rules_view from.now.rules.now) from.now.tables.now }
+    requires long { length from.now.at.now ≡ length from.now.tables.now.target }
+    requires within { type_le from.now.at.now from.now.tables.now.target ≡ true }
+    requires columns_are { from.now.columns.now ≡ columns_of from.now.tables.now.parts from.now.at.now }
+    requires form { k < length from.now.rules.now.linears.items }
+    requires kept { AreKept (setting_from from.now) offers.echelon (map origin_view offers.origins.items) }
+    requires before { HasBefore (setting_from from.now) offers.echelon k }
+    ensures kept { IfOk result (λ r. AreKept (setting_from from.now) r.echelon (map origin_view r.origins.items)) }
+    ensures before { IfOk result (λ r. HasBefore (setting_from from.now) r.echelon (k + 1)) }
 {
-    let f = &rules.linears[k as usize];
+    let f = &from.rules.linears[k as usize];
     let mut offers = offers;
-    let mut instances = Instances::open(alloc, tables, f, t)?;
-    while let Some(tuple) = instances.next(tables) {
-        let row = row_of(alloc, tables, f, tuple.as_slice(), columns)?;
+    let mut instances = Instances::open(alloc, from.tables, f, from.at)?;
+    while let Some(tuple) = instances.next(from.tables) {
+        let row = row_of(alloc, from.tables, f, tuple.as_slice(), from.columns)?;
         offers = offer_row(offers, row, k, tuple)?;
     }
     Ok(offers)
 }
 
 // Offers all instances of all forms.
-pub(crate) fn offer_all(
-    alloc: Global,
-    rules: &Rules,
-    tables: &Tables,
-    t: &Multi,
-    columns: &Columns,
-) -> Result<Offers, NoMemory>
-    requires rules { AreRules (rules_view rules.now) }
-    requires right { IsRightFor (rules_view rules.now) tables.now }
-    requires long { length t.now ≡ length tables.now.target }
-    requires within { type_le t.now tables.now.target ≡ true }
-    requires columns_are { columns.now ≡ columns_of tables.now.parts t.now }
-    ensures kept { IfOk result (λ r. AreKept (setting rules.now tables.now t.now) r.echelon (map origin_view r.origins.items)) }
-    ensures before { IfOk result (λ r. HasBefore (setting rules.now tables.now t.now) r.echelon (length rules.now.linears.items)) }
+pub(crate) fn offer_all(alloc: Global, from: &Sources) -> Result<Offers, NoMemory>
+    requires rules { AreRules (rules_view from.now.rules.now) }
+    requires right { IsRightFor (rules_view from.now.rules.now) from.now.tables.now }
+    requires long { length from.now.at.now ≡ length from.now.tables.now.target }
+    requires within { type_le from.now.at.now from.now.tables.now.target ≡ true }
+    requires columns_are { from.now.columns.now ≡ columns_of from.now.tables.now.parts from.now.at.now }
+    ensures kept { IfOk result (λ r. AreKept (setting_from from.now) r.echelon (map origin_view r.origins.items)) }
+    ensures before { IfOk result (λ r. HasBefore (setting_from from.now) r.echelon (length from.now.rules.now.linears.items)) }
 {
     let mut offers = Offers {
-        echelon: Echelon::new(alloc, *tables.field(), columns.len(), false),
+        echelon: Echelon::new(alloc, *from.tables.field(), from.columns.len(), false),
         origins: Vec::new(alloc),
     };
-    for k in 0..rules.linears.len() {
-        offers = offer_form(alloc, rules, tables, t, columns, k as u32, offers)?;
+    for k in 0..from.rules.linears.len() {
+        offers = offer_form(alloc, from, k as u32, offers)?;
     }
     Ok(offers)
 }

@@ -131,18 +131,20 @@ module _ (fs : List Form) (t : Table) (bs : List BlockView) (new : List PartView
   pub next-table : next_products t ≤ most_products → count_coefficients (t.parts ++ new) ≤ most_coefficients → IsRightTable fs (extended t new)
   next-table few cells = record {
     right = next-right fs t bs new old tab pos a m multi high right.right;
-    origins = λ w long c two. elim (cases_lt t.degree (sum w)) [
-      | inr l ↦ old-origins w long c l two
-      | inl l ↦ (let s : sum w ≤ t.degree + 1 = c.degree_le in new-origins w long c (omega arith) two)
-    ];
-    no_origins = λ w l. (let some : 0 < t.degree = old.started in
-        origins-kept new t.degree (next-degrees fs t bs new old tab pos a m) t.parts w (omega arith) ∙ right.no_origins w l);
-    known = each-append (NamesBelow (length (elems (t.parts ++ new)))) t.parts new
-        (names-weaker (length (elems t.parts)) (length (elems (t.parts ++ new))) t.parts (more-elems t.parts new) right.known)
-        (names-weaker (length (elems t.parts)) (length (elems (t.parts ++ new))) new (more-elems t.parts new) (made-known fs t (next_types t) bs new (length (elems t.parts)) a m));
-    limits = record {
-      types = each-append (λ (q : PartView). length q.entries ≤ 4096) t.parts new right.limits.types (made-narrow fs t (next_types t) bs new (length (elems t.parts)) a m);
-      products = (let p = grown-products fs t bs new (length (elems t.parts)) a m in omega arith);
-      coefficients = cells;
+    books = record {
+      origins = λ w long c two. elim (cases_lt t.degree (sum w)) [
+        | inr l ↦ old-origins w long c l two
+        | inl l ↦ (let s : sum w ≤ t.degree + 1 = c.degree_le in new-origins w long c (omega arith) two)
+      ];
+      no_origins = λ w l. (let some : 0 < t.degree = old.started in
+          origins-kept new t.degree (next-degrees fs t bs new old tab pos a m) t.parts w (omega arith) ∙ right.no_origins w l);
+      known = each-append (NamesBelow (length (elems (t.parts ++ new)))) t.parts new
+          (names-weaker (length (elems t.parts)) (length (elems (t.parts ++ new))) t.parts (more-elems t.parts new) right.known)
+          (names-weaker (length (elems t.parts)) (length (elems (t.parts ++ new))) new (more-elems t.parts new) (made-known fs t (next_types t) bs new (length (elems t.parts)) a m));
+      limits = record {
+        types = each-append (λ (q : PartView). length q.entries ≤ 4096) t.parts new right.limits.types (made-narrow fs t (next_types t) bs new (length (elems t.parts)) a m);
+        products = (let p = grown-products fs t bs new (length (elems t.parts)) a m in omega arith);
+        coefficients = cells;
+      };
     };
   }

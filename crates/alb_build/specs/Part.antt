@@ -1,4 +1,4 @@
--- How a block becomes a part of the table of the next degree.
+-- How a block becomes a part of the table of the next degree. Contracts of private functions alone speak of it.
 use Rattle.std.specs.Prelude.{◌≡◌, ◌↔◌, ℕ, ◌+◌, ◌-◌, ◌<◌, Bool, false, if◌then◌else◌, IsTrue, List, [], ◌∷◌, length, reverse, drop, slice_index, slice_index_or}
 use Rattle.gf_field.specs.Modular.{IsSameMod}
 use Rattle.gf_sums.specs.Sums.{total}

@@ -1,5 +1,5 @@
 -- A table that keeps its shape keeps the limits of its text.
-use Rattle.std.proofs.Common.{◌≡◌, ℕ, zero, suc, ◌+◌, ◌<◌, ◌≤◌, ◌^◌, Bool, true, ◌&&◌, List, [], ◌∷◌, length, sum, nat_le, nat_lt, arith}
+use Rattle.std.proofs.Common.{◌≡◌, ℕ, suc, ◌<◌, ◌≤◌, ◌^◌, true, ◌&&◌, List, [], ◌∷◌, length, sum, nat_lt, arith}
 use Rattle.std.specs.Prelude.{Option, None, Some, All}
 use Rattle.std.specs.List.{list_all}
 use Rattle.std.proofs.lemmas.Bool.Decides.{nat_tests}
@@ -9,7 +9,7 @@ use Rattle.alb_poly.proofs.Multilinear.{sum_cons}
 use Rattle.alb_check.specs.declared.raw.RawEntry.{RawEntry}
 use Rattle.alb_check.specs.Limits.{AreCounts, AreTypes, ArePlaces, AreEntries, IsTableFit}
 use Rattle.alb_check.specs.Raw.{Raw, IsRaw}
-use Rattle.alb_check.specs.Shape.{is_element, is_top_right, is_generator_right, are_generators_right, is_entry_right, shape_fault}
+use Rattle.alb_check.specs.Shape.{is_element, is_generator_right, are_generators_right, is_entry_right, shape_fault}
 use Rattle.alb_check.proofs.TableLemmas.{IsShaped, shaped, element_from, le_sum}
 
 -- the counts of a type of small degree

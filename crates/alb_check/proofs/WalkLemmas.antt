@@ -1,5 +1,5 @@
 -- The walk over the tuples of elements.
-use Rattle.std.proofs.Common.{◌≡◌, ℕ, zero, suc, ◌+◌, ◌-◌, ◌<◌, ◌≤◌, Bool, true, false, ◌&&◌, List, [], ◌∷◌, ◌++◌, length, map, take, get_or, nat_le, sym, refl, ap, ◌∙◌, subst, arith, inl, inr, ◌⊎◌, append_assoc, append-nil, below_more}
+use Rattle.std.proofs.Common.{◌≡◌, ℕ, zero, suc, ◌+◌, ◌-◌, ◌<◌, ◌≤◌, Bool, true, false, List, [], ◌∷◌, ◌++◌, length, map, take, get_or, nat_le, sym, refl, ap, ◌∙◌, subst, arith, inl, inr, ◌⊎◌, append_assoc, append-nil, below_more}
 use Rattle.std.specs.Prelude.{IsTrue, ◌↔◌, not}
 use Rattle.std.specs.List.{All, filter}
 use Rattle.std.specs.Ordering.{nat_cmp}

@@ -1,5 +1,5 @@
 -- Tuples of elements that begin alike.
-use Rattle.std.specs.Prelude.{◌≡◌, ◌+◌, ◌<◌, ℕ, Bool, true, List, ◌++◌, length, slice_index_or}
+use Rattle.std.specs.Prelude.{◌≡◌, ◌+◌, ◌<◌, ℕ, Bool, true, List, ◌++◌, length, slice_index_or, None}
 use Rattle.std.specs.List.{AllPairs}
 use Rattle.std.specs.Ordering.{nat_cmp}
 use Rattle.std.specs.Cmp.Lexicographic.{slice_cmp}
@@ -8,9 +8,21 @@ use Rattle.gf_sums.specs.Sums.{total}
 use Rattle.alb_mono.specs.Listing.{Each, IsIn}
 use Rattle.alb_mono.specs.Tree.{type_le}
 use Rattle.alb_poly.specs.Instance.{Form}
-use Rattle.alb_check.specs.Raw.{Raw}
-use Rattle.alb_check.specs.Shape.{type_at}
+use Rattle.alb_poly.specs.Rules.{form}
+use Rattle.alb_linear.specs.Identity.{IsLinearized}
+use Rattle.alb_check.specs.declared.walk.Trial.{Trial}
+use Rattle.alb_check.specs.Raw.{Raw, raw, IsRaw}
+use Rattle.alb_check.specs.Shape.{shape_fault, type_at}
+use Rattle.alb_check.specs.Products.{AreProducts, GivesProducts}
 use Rattle.alb_check.specs.TableAlgebra.{IsElement, IsTuple, IsZeroAt}
+
+-- a table in its shape, its products, and a linearized form
+pub record IsTrial (s : Trial) : Type 0 where
+  pub table : IsRaw s.rules.now.field (length s.rules.now.target) (raw s.table.now)
+  pub shape : shape_fault s.rules.now.target s.rules.now.field (raw s.table.now) ≡ None
+  pub products : AreProducts s.rules.now.field s.products.now
+  pub values : GivesProducts s.rules.now.field (raw s.table.now) s.products.now
+  pub linearized : IsLinearized s.rules.now.field (form s.linear.now)
 
 -- how often a generator occurs in the type of an element
 abbrev pub count_at : Raw → ℕ → ℕ → ℕ

@@ -13,7 +13,7 @@ ghost use Rattle.alb_check.specs.Answers.{AreRules, Answers, FindsFailure, Satis
 
 use crate::product::{Product, products_of};
 use crate::shape::shape_fault;
-use crate::value::value_of;
+use crate::value::Algebra;
 use crate::walk::first_failing;
 use crate::{RawTable, TableError};
 use alb_mono::NoMemory;
@@ -85,7 +85,11 @@ fn claimed_value(
     ensures value { IfOk result (λ r. AreSameVector rules.now.field (comb r) (value (raw table.now) g.now)) }
 {
     let rows = generator_rows(alloc, rules, table)?;
-    value_of(alloc, &rules.field, products, &rows, g)
+    let algebra = Algebra {
+        field: &rules.field,
+        products,
+    };
+    algebra.value_of(alloc, &rows, g)
 }
 
 /// The value of a polynomial in the algebra of the table, where this has its shape, satisfies every identity of the rules and

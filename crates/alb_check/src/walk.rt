@@ -10,39 +10,43 @@ ghost use Rattle.alb_check.specs.Raw.{raw, IsRaw};
 ghost use Rattle.alb_check.specs.Shape.{shape_fault, type_at};
 ghost use Rattle.alb_check.specs.TableAlgebra.{IsElement, IsTuple, IsZeroAt, IsZeroAtTuples};
 ghost use Rattle.alb_check.specs.First.{IsFirstTuple};
-ghost use Rattle.alb_check.specs.Walk.{Leaves, fits, AreCandidates, IsZeroFrom, IsFirstFrom};
+ghost use Rattle.alb_check.specs.Walk.{IsTrial, Leaves, fits, AreCandidates, IsZeroFrom, IsFirstFrom};
 ghost use Rattle.alb_check.specs.Products.{AreProducts, GivesProducts};
 
 use crate::RawTable;
 use crate::product::Product;
-use crate::value::value_of;
+use crate::value::Algebra;
 use alb_mono::{Multi, NoMemory};
 use alb_poly::{Linear, Rules};
 use alb_rows::Row;
 use std::alloc::Global;
 
+// What is tried at tuples of elements: a form, in the algebra of a table, whose products are listed.
+#[derive(Clone, Copy)]
+struct Trial<'a> {
+    rules: &'a Rules,
+    table: &'a RawTable,
+    products: &'a [Product],
+    linear: &'a Linear,
+}
+
 // Whether the form is zero at a tuple of elements.
-fn is_zero_at(
-    alloc: Global,
-    rules: &Rules,
-    table: &RawTable,
-    products: &[Product],
-    linear: &Linear,
-    tuple: &[u64],
-) -> Result<bool, NoMemory>
-    requires shape { shape_fault rules.now.target rules.now.field (raw table.now) ≡ None }
-    requires products { AreProducts rules.now.field products.now }
-    requires values { GivesProducts rules.now.field (raw table.now) products.now }
-    requires linearized { IsLinearized rules.now.field (form linear.now) }
-    requires tuple { IsTuple (raw table.now) (form linear.now) tuple.now }
-    ensures { IfOk result (λ b. IsTrue b ↔ IsZeroAt rules.now.field (raw table.now) (form linear.now) tuple.now) }
+fn is_zero_at(alloc: Global, trial: &Trial, tuple: &[u64]) -> Result<bool, NoMemory>
+    requires trial { IsTrial trial.now }
+    requires tuple { IsTuple (raw trial.now.table.now) (form trial.now.linear.now) tuple.now }
+    ensures { IfOk result (λ b. IsTrue b ↔ IsZeroAt trial.now.rules.now.field (raw trial.now.table.now) (form trial.now.linear.now) tuple.now) }
 {
     let mut rows = Vec::new(alloc);
     for k in tuple {
         rows.push(Row::unit(alloc, *k as u32, 1)?)?;
     }
-    prove!(1 < rules.field.p());
-    let value = value_of(alloc, &rules.field, products, &rows, &linear.terms)?;
+    let field = &trial.rules.field;
+    prove!(1 < field.p());
+    let algebra = Algebra {
+        field,
+        products: trial.products,
+    };
+    let value = algebra.value_of(alloc, &rows, &trial.linear.terms)?;
     Ok(value.is_zero())
 }
 
@@ -79,37 +83,30 @@ fn rest_after(table: &RawTable, rest: &Multi, k: u64) -> Multi
 // Tries the tuples that begin with `tuple`, where the types of its elements leave `rest` of the top type, and all elements
 // that fit into that are candidates. Whether there is one at which the form is not zero; `tuple` is then the first of them.
 fn walk(
-    rules: &Rules,
-    table: &RawTable,
-    products: &[Product],
-    linear: &Linear,
+    trial: &Trial,
     candidates: &[u64],
     rest: &Multi,
     tuple: &mut Vec<u64>,
 ) -> Result<bool, NoMemory>
-    requires raw { IsRaw rules.now.field (length rules.now.target) (raw table.now) }
-    requires shape { shape_fault rules.now.target rules.now.field (raw table.now) ≡ None }
-    requires products { AreProducts rules.now.field products.now }
-    requires values { GivesProducts rules.now.field (raw table.now) products.now }
-    requires linearized { IsLinearized rules.now.field (form linear.now) }
-    requires elements { Each (IsElement (raw table.now)) tuple.old.items }
-    requires within { length tuple.old.items ≤ linear.now.degree }
-    requires leaves { Leaves (raw table.now) tuple.old.items rest.now }
-    requires candidates { AreCandidates (raw table.now) rest.now candidates.now }
+    requires trial { IsTrial trial.now }
+    requires elements { Each (IsElement (raw trial.now.table.now)) tuple.old.items }
+    requires within { length tuple.old.items ≤ trial.now.linear.now.degree }
+    requires leaves { Leaves (raw trial.now.table.now) tuple.old.items rest.now }
+    requires candidates { AreCandidates (raw trial.now.table.now) rest.now candidates.now }
     ensures kept { IfOk result (λ b. b ≡ false → tuple.new.items ≡ tuple.old.items) }
-    ensures zero { IfOk result (λ b. b ≡ false → IsZeroFrom rules.now.field (raw table.now) (form linear.now) tuple.old.items) }
-    ensures first { IfOk result (λ b. b ≡ true → IsFirstFrom rules.now.field (raw table.now) (form linear.now) tuple.old.items tuple.new.items) }
+    ensures zero { IfOk result (λ b. b ≡ false → IsZeroFrom trial.now.rules.now.field (raw trial.now.table.now) (form trial.now.linear.now) tuple.old.items) }
+    ensures first { IfOk result (λ b. b ≡ true → IsFirstFrom trial.now.rules.now.field (raw trial.now.table.now) (form trial.now.linear.now) tuple.old.items tuple.new.items) }
 {
     let alloc = *tuple.allocator();
-    if tuple.len() as u64 == u64::from(linear.degree) {
-        let zero = is_zero_at(alloc, rules, table, products, linear, tuple)?;
+    if tuple.len() as u64 == u64::from(trial.linear.degree) {
+        let zero = is_zero_at(alloc, trial, tuple)?;
         return Ok(!zero);
     }
-    let fitting = those_fitting(alloc, table, candidates, rest)?;
+    let fitting = those_fitting(alloc, trial.table, candidates, rest)?;
     for k in &fitting {
-        let left = rest_after(table, rest, *k);
+        let left = rest_after(trial.table, rest, *k);
         tuple.push(*k)?;
-        if walk(rules, table, products, linear, &fitting, &left, tuple)? {
+        if walk(trial, &fitting, &left, tuple)? {
             return Ok(true);
         }
         let _ = tuple.pop();
@@ -146,7 +143,13 @@ pub(crate) fn first_failing(
 {
     let all = numbers(alloc, table)?;
     let mut tuple = Vec::new(alloc);
-    if walk(rules, table, products, linear, &all, &table.top, &mut tuple)? {
+    let trial = Trial {
+        rules,
+        table,
+        products,
+        linear,
+    };
+    if walk(&trial, &all, &table.top, &mut tuple)? {
         Ok(Some(tuple))
     } else {
         Ok(None)

@@ -2,16 +2,22 @@
 use Rattle.std.proofs.Common.{◌≡◌, ◌≢◌, ℕ, suc, ◌+◌, ◌*◌, ◌%◌, ◌<◌, ◌≤◌, inl, inr, List, [], ◌∷◌, ◌++◌, refl, arith, subst, sym, ap, ◌∙◌, length, get_or, take, true, false}
 use Rattle.std.proofs.Math.Nat.{mod-eq_of_lt}
 use Rattle.std.proofs.lemmas.Bool.{cases_eq}
-use Rattle.std.specs.Prelude.{Option, Some, None, MatchOption, is_some}
+use Rattle.std.specs.Prelude.{Option, Some, None, MatchOption, is_some, slice_index}
 use Rattle.std.specs.List.{Contains}
 use Rattle.std.proofs.lemmas.List.{length_push, get_or_push, get_or_append_left, get_or_past, get_or_default, get_or-take, length-take, take_more}
 use Rattle.alb_rows.specs.Row.{Cells, entry, IsRowOver, LeadsWith}
-use Rattle.alb_rows.specs.Span.{rows_of}
+use Rattle.alb_rows.specs.Span.{rows_of, DiffersBySpan}
 use Rattle.alb_rows.proofs.RowLemmas.{at_column-other}
 use Rattle.alb_rows.proofs.SpanLemmas.{mod_add}
-use Rattle.alb_reduce.specs.Echelon.{IsEchelon, IsCleared, IsClearedAt, IsIndex, PutsAt, AreHits, AreTakenOff}
+use Rattle.alb_reduce.specs.Echelon.{IsEchelon, IsCleared, IsClearedAt, IsIndex, PutsAt, AreHits}
 use Rattle.alb_reduce.proofs.DiagonalLemmas.{zero_mod, add_zeros, mul_zero_right, mul_one_right}
 use Rattle.alb_reduce.proofs.EchelonLemmas.{differs_none, differs_more}
+
+-- the row where the kept rows at some places have been taken off
+pub record AreTakenOff (p : ℕ) (pivots : List ℕ) (rows : List Cells) (hits : List ℕ) (row new : ℕ → ℕ) : Type 0 where
+  pub differs : DiffersBySpan p (rows_of rows) row new
+  pub zero_at : (m : ℕ) → m < length hits → new (slice_index pivots (slice_index hits m)) % p ≡ 0
+  pub zero_stays : (k : ℕ) → k < length pivots → row (slice_index pivots k) % p ≡ 0 → new (slice_index pivots k) % p ≡ 0
 
 -- ---- places
 

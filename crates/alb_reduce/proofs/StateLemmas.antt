@@ -1,5 +1,6 @@
 -- What the calls say of the kept rows, with their recipes.
 use Rattle.std.proofs.Common.{◌≡◌, ◌≢◌, ℕ, ◌%◌, ◌<◌, ◌==◌, List, [], ◌∷◌, ◌++◌, refl, Bool, arith, subst, sym, ap, ◌∙◌, inl, inr, length, get_or, map}
+use Rattle.std.specs.Prelude.{◌↔◌}
 use Rattle.std.specs.Bool.{if◌then◌else◌, IsTrue}
 use Rattle.std.specs.Int.{from_bool}
 use Rattle.std.specs.List.{All}
@@ -9,12 +10,15 @@ use Rattle.std.proofs.lemmas.List.Elements.{All-push}
 use Rattle.std.proofs.Math.Nat.{mod-eq_of_lt}
 use Rattle.gf_sums.specs.Sums.{Comb}
 use Rattle.alb_rows.specs.Row.{Cells, ColumnsBelow, comb, entry, IsRowOver, LeadsWith}
-use Rattle.alb_rows.specs.Span.{combination, IsPivot, IsReducedRow, ArePivots, rows_of}
+use Rattle.alb_rows.specs.Span.{combination, InSpan, IsPivot, IsReducedRow, ArePivots, rows_of, SameSpan}
 use Rattle.alb_rows.proofs.RowLemmas.{entry_residue, entry_past, below_from_entries}
 use Rattle.alb_reduce.specs.Reduction.{Reduction, IsNewTag, IsRecipe, offered}
-use Rattle.alb_reduce.specs.Echelon.{IsEchelon, IsCleared, NewPivot, IsNarrow, IsKept, Agrees, AllAgree, IsState, IsForm}
+use Rattle.alb_reduce.specs.declared.kept.Kept.{Kept}
+use Rattle.alb_reduce.specs.declared.echelon.Offered.{Offered}
+use Rattle.alb_reduce.specs.declared.echelon.Offered.TheVariants.{Dependent, Pivot}
+use Rattle.alb_reduce.specs.Echelon.{IsEchelon, IsCleared, IsIndex, Keeps, NewPivot, IsNarrow, IsKept, Agrees, AllAgree, IsState, IsForm}
 use Rattle.alb_reduce.proofs.DiagonalLemmas.{zero_mod, add_zero_right, diagonal_each, diagonal_row}
-use Rattle.alb_reduce.proofs.EchelonLemmas.{span_zero_at, pivot_below, kept_more, positive}
+use Rattle.alb_reduce.proofs.EchelonLemmas.{span_zero_at, pivot_below, kept_more, positive, dependent, span_dependent}
 use Rattle.alb_reduce.proofs.RecipeLemmas.{recipes_old, recipes_more, reduced_same, recipe_tags, recipe_residues, recipe_ascending}
 
 -- ---- columns
@@ -92,6 +96,43 @@ state_pivot p columns keeps pivots rows recipes offers offers' tag c row first r
       rw more
       (recipes_more p offers tag row first recipes rows recipes' rows' (positive s.kept.echelon.above) s.residues over (new t) (is t) (s.recipes_are t) step);
 }
+
+-- what is kept after an offer is a state again
+pub state_after : (p columns : ℕ) (keeps : Bool) (old new : Kept) (offers offers' : List (ℕ × Cells)) (tag : ℕ) (row first : Cells) (o : Offered) →
+    IsState p columns keeps old.pivots.items old.rows.items old.recipes.items offers → offers' ≡ (if keeps then offers ++ (tag, row) ∷ [] else offers) →
+    (IsTrue keeps → IsNewTag offers tag) → ColumnsBelow columns row → (IsTrue keeps → first ≡ (tag, 1) ∷ []) → Keeps p old new row first o →
+    IsState p columns keeps new.pivots.items new.rows.items new.recipes.items offers'
+state_after p columns keeps old new offers offers' tag row first Dependent s e fresh narrow is k =
+    subst (λ (n : Kept). IsState p columns keeps n.pivots.items n.rows.items n.recipes.items offers') (sym k.0)
+    (state_dependent p columns keeps old.pivots.items old.rows.items old.recipes.items offers offers' tag row s e fresh)
+state_after p columns keeps old new offers offers' tag row first (Pivot c) s e fresh narrow is k =
+    subst (λ (ps : List ℕ). IsState p columns keeps ps new.rows.items new.recipes.items offers') (sym k.pivots)
+    (state_pivot p columns keeps old.pivots.items old.rows.items old.recipes.items offers offers' tag c row first new.rows.items new.recipes.items
+    s e fresh narrow is k.rows k.long k.residues k.agree)
+
+pub index_after : (p : ℕ) (old new : Kept) (row first : Cells) (o : Offered) → IsIndex old.pivots.items old.places.items → Keeps p old new row first o →
+    IsIndex new.pivots.items new.places.items
+index_after p old new row first Dependent i k = subst (λ (n : Kept). IsIndex n.pivots.items n.places.items) (sym k.0) i
+index_after p old new row first (Pivot c) i k = k.index
+
+pub span_after : (p : ℕ) (old new : Kept) (row first : Cells) (o : Offered) → Keeps p old new row first o →
+    SameSpan p (rows_of new.rows.items) (rows_of (row ∷ old.rows.items))
+span_after p old new row first Dependent k =
+    subst (λ (n : Kept). SameSpan p (rows_of n.rows.items) (rows_of (row ∷ old.rows.items))) (sym k.0)
+    (span_dependent p old.rows.items row (dependent p old.pivots.items old.rows.items row k.1))
+span_after p old new row first (Pivot c) k = k.rows.span
+
+pub dependent_after : (p : ℕ) (old new : Kept) (row first : Cells) (o : Offered) → Keeps p old new row first o →
+    (o ≡ Dependent) ↔ InSpan p (rows_of old.rows.items) (entry row)
+dependent_after p old new row first Dependent k = (λ e. dependent p old.pivots.items old.rows.items row k.1, λ s. refl)
+dependent_after p old new row first (Pivot c) k = (λ e. absurd cc, λ s. absurd (k.rows.outside s))
+
+pub new_after : (p : ℕ) (old new : Kept) (row first : Cells) (o : Offered) (c : ℕ) → o ≡ Pivot c → Keeps p old new row first o →
+    NewPivot p old.pivots.items old.rows.items row c new.rows.items
+new_after p old new row first Dependent c e k = absurd cc
+new_after p old new row first (Pivot d) c e k =
+    let same : d ≡ c = cc in
+    subst (λ (n : ℕ). NewPivot p old.pivots.items old.rows.items row n new.rows.items) same k.rows
 
 -- ---- what a recipe is
 

@@ -5,6 +5,9 @@ use Rattle.gf_field.specs.Modular.{IsSameMod}
 use Rattle.gf_sums.specs.Sums.{Comb, weigh}
 use Rattle.alb_rows.specs.Row.{Cells, comb, entry, IsRowOver}
 use Rattle.alb_rows.specs.Span.{rows_of, combination, Ascending, ArePivots, DiffersBySpan, Same, SameSpan, InSpan, IsPivot}
+use Rattle.alb_reduce.specs.declared.kept.Kept.{Kept}
+use Rattle.alb_reduce.specs.declared.echelon.Offered.{Offered}
+use Rattle.alb_reduce.specs.declared.echelon.Offered.TheVariants.{Dependent, Pivot}
 use Rattle.alb_reduce.specs.Reduction.{IsNewTag, offered}
 
 -- n rows with their pivots, each 1 at its own pivot, 0 at every other one and 0 before its own. Past them the family is zero
@@ -42,12 +45,6 @@ pub record AreHits (pivots : List ℕ) (cells : Cells) (hits : List ℕ) : Type 
   pub within : (m : ℕ) → m < length hits → slice_index hits m < length pivots
   pub all : (k i : ℕ) → k < length pivots → i < length cells → (slice_index_or cells i (0, 0)).0 ≡ slice_index pivots k
       → (m : ℕ) × (m < length hits) × (slice_index hits m ≡ k)
-
--- the row where the kept rows at some places have been taken off
-pub record AreTakenOff (p : ℕ) (pivots : List ℕ) (rows : List Cells) (hits : List ℕ) (row new : ℕ → ℕ) : Type 0 where
-  pub differs : DiffersBySpan p (rows_of rows) row new
-  pub zero_at : (m : ℕ) → m < length hits → new (slice_index pivots (slice_index hits m)) % p ≡ 0
-  pub zero_stays : (k : ℕ) → k < length pivots → row (slice_index pivots k) % p ≡ 0 → new (slice_index pivots k) % p ≡ 0
 
 -- a multiple of `by` has been added, which is 1 at the column, so that the new vector is 0 there
 pub record IsClearedAt (p column : ℕ) (by old new : ℕ → ℕ) : Type 0 where
@@ -99,6 +96,21 @@ pub record RecipesFollow (p : ℕ) (by_recipe by : Cells) (old_recipes old recip
   pub long : length recipes ≡ length old_recipes
   pub residues : All (IsRowOver p) recipes
   pub agree : (w u : ℕ → ℕ) → Agrees p w u by_recipe by → AllAgree p w u old_recipes old → AllAgree p w u recipes rows
+
+-- one row more is kept: it was `row` with its recipe before it was cleared, and its pivot is c
+pub record KeepsPivot (p : ℕ) (old new : Kept) (row recipe : Cells) (c : ℕ) : Type 0 where
+  pub pivots : new.pivots.items ≡ old.pivots.items ++ c ∷ []
+  pub index : IsIndex new.pivots.items new.places.items
+  pub rows : NewPivot p old.pivots.items old.rows.items row c new.rows.items
+  pub long : length new.recipes.items ≡ length new.rows.items
+  pub residues : All (IsRowOver p) new.recipes.items
+  pub agree : (w u : ℕ → ℕ) → AllAgree p w u old.recipes.items old.rows.items → Agrees p w u recipe row
+      → AllAgree p w u new.recipes.items new.rows.items
+
+-- what is kept after an offer: the same, where the row was a combination of the kept rows, or one row more
+abbrev pub Keeps : ℕ → Kept → Kept → Cells → Cells → Offered → Type 0
+Keeps p old new row recipe Dependent = (new ≡ old) × IsCleared p old.pivots.items old.rows.items row []
+Keeps p old new row recipe (Pivot c) = KeepsPivot p old new row recipe c
 
 -- each recipe gives its row from the offered rows, and has no tag but theirs
 pub record AreRecipes (p : ℕ) (offers : List (ℕ × Cells)) (recipes rows : List Cells) : Type 0 where

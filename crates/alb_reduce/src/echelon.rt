@@ -8,7 +8,7 @@ use crate::kept::Kept;
 use crate::order::ascending;
 use crate::recipes::all_items;
 use crate::reduced::Reduced;
-use crate::steps::{add_pivot, clear};
+use crate::steps::{clear, keep};
 use alb_mono::NoMemory;
 use alb_rows::Row;
 use gf_field::{Field, Residue};
@@ -109,37 +109,20 @@ impl Echelon {
             mut offers,
         } = self;
         note_offer(keep_recipes, tag, &row, &mut offers)?;
-        let mut recipe = Row::unit(*kept.rows.allocator(), tag, Residue::from(keep_recipes))?;
-        let mut row = row;
-        clear(&field, &kept, &mut row, &mut recipe)?;
-        match row.lead() {
-            None => Ok((
-                Echelon {
-                    field,
-                    columns,
-                    keep_recipes,
-                    kept,
-                    tags,
-                    offers,
-                },
-                Offered::Dependent,
-            )),
-            Some((column, x)) => {
-                add_pivot(&field, (column, x), row, recipe, &mut kept)?;
-                tags.push(tag)?;
-                Ok((
-                    Echelon {
-                        field,
-                        columns,
-                        keep_recipes,
-                        kept,
-                        tags,
-                        offers,
-                    },
-                    Offered::Pivot(column),
-                ))
-            }
-        }
+        let recipe = Row::unit(*kept.rows.allocator(), tag, Residue::from(keep_recipes))?;
+        let offered = keep(&field, &mut kept, row, recipe)?;
+        note_tag(offered, tag, &mut tags)?;
+        Ok((
+            Echelon {
+                field,
+                columns,
+                keep_recipes,
+                kept,
+                tags,
+                offers,
+            },
+            offered,
+        ))
     }
 
     /// The reduced form of the span. The rows are moved.
@@ -186,4 +169,18 @@ fn note_offer(
         offers.push((tag, copy))?;
     }
     Ok(())
+}
+
+// Adds the tag of an offer to the list, where it made a pivot.
+fn note_tag(offered: Offered, tag: u32, tags: &mut Vec<u32>) -> Result<(), NoMemory>
+    ensures dependent { OnOk result (offered ≡ Offered.Dependent → tags.new.items ≡ tags.old.items) }
+    ensures pivot { OnOk result ((c : ℕ) → offered ≡ Offered.Pivot c → tags.new.items ≡ tags.old.items ++ tag ∷ []) }
+{
+    match offered {
+        Offered::Dependent => Ok(()),
+        Offered::Pivot(_) => {
+            tags.push(tag)?;
+            Ok(())
+        }
+    }
 }

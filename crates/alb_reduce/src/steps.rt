@@ -1,39 +1,41 @@
 //! Steps on the kept rows, each with its recipe.
-ghost use Rattle.std.specs.Prelude.{◌≡◌, ℕ, ◌<◌, ◌++◌, [], ◌∷◌, length, OnOk};
+ghost use Rattle.std.specs.Prelude.{◌≡◌, ℕ, ◌<◌, ◌++◌, [], ◌∷◌, length, IfOk, OnOk};
 ghost use Rattle.std.specs.List.{All};
 ghost use Rattle.alb_rows.specs.Row.{Cells, entry, IsRowOver, LeadsWith};
-ghost use Rattle.alb_reduce.specs.Echelon.{Agrees, AllAgree, AreClearedAt, IsCleared, IsClearedAt, IsEchelon, IsIndex, NewPivot, RecipesFollow};
+ghost use Rattle.alb_reduce.specs.Echelon.{Agrees, AllAgree, AreClearedAt, IsCleared, IsClearedAt, IsEchelon, IsIndex, Keeps, NewPivot, RecipesFollow};
 
+use crate::echelon::Offered;
 use crate::kept::Kept;
 use crate::places::{hits_of, put_place};
 use alb_mono::NoMemory;
 use alb_rows::Row;
 use gf_field::{Field, Residue};
 
-// Adds a multiple of `by`, which is 1 at the column, so that the row is 0 there.
-fn take_off(
-    field: &Field,
+// A row that is 1 at a column, with its recipe.
+#[derive(Clone, Copy)]
+struct PivotRow<'a> {
     column: u32,
-    by: &Row,
-    by_recipe: &Row,
-    row: &mut Row,
-    recipe: &mut Row,
-) -> Result<(), NoMemory>
-    requires by_in { IsRowOver field.now by.now }
-    requires by_recipe_in { IsRowOver field.now by_recipe.now }
+    row: &'a Row,
+    recipe: &'a Row,
+}
+
+// Adds a multiple of the pivot row, so that the row is 0 at its column.
+fn take_off(field: &Field, by: &PivotRow, row: &mut Row, recipe: &mut Row) -> Result<(), NoMemory>
+    requires by_in { IsRowOver field.now by.now.row.now }
+    requires by_recipe_in { IsRowOver field.now by.now.recipe.now }
     requires row_in { IsRowOver field.now row.old }
     requires recipe_in { IsRowOver field.now recipe.old }
     ensures residues { OnOk result (IsRowOver field.now row.new) }
     ensures recipe_residues { OnOk result (IsRowOver field.now recipe.new) }
-    ensures cleared { OnOk result (IsClearedAt field.now column (entry by.now) (entry row.old) (entry row.new)) }
-    ensures agrees { OnOk result ((w u : ℕ → ℕ) → Agrees field.now w u by_recipe.now by.now → Agrees field.now w u recipe.old row.old
+    ensures cleared { OnOk result (IsClearedAt field.now by.now.column (entry by.now.row.now) (entry row.old) (entry row.new)) }
+    ensures agrees { OnOk result ((w u : ℕ → ℕ) → Agrees field.now w u by.now.recipe.now by.now.row.now → Agrees field.now w u recipe.old row.old
         → Agrees field.now w u recipe.new row.new) }
 {
-    let x = row.entry(column);
+    let x = row.entry(by.column);
     if x != 0 {
         let factor = field.neg(x);
-        row.add_scaled(field, factor, by)?;
-        recipe.add_scaled(field, factor, by_recipe)?;
+        row.add_scaled(field, factor, by.row)?;
+        recipe.add_scaled(field, factor, by.recipe)?;
     }
     Ok(())
 }
@@ -59,37 +61,33 @@ pub(crate) fn clear(
     let hits = hits_of(*kept.rows.allocator(), &kept.places, row.cells())?;
     for place in &hits {
         let k = *place;
-        take_off(
-            field,
-            kept.pivots[k],
-            &kept.rows[k],
-            &kept.recipes[k],
-            row,
-            recipe,
-        )?;
+        let by = PivotRow {
+            column: kept.pivots[k],
+            row: &kept.rows[k],
+            recipe: &kept.recipes[k],
+        };
+        take_off(field, &by, row, recipe)?;
     }
     Ok(())
 }
 
-// Takes the column off each row, by the row that is 1 there.
+// Takes the pivot row off each row.
 fn clear_column(
     field: &Field,
-    column: u32,
-    by: &Row,
-    by_recipe: &Row,
+    by: &PivotRow,
     rows: &mut Vec<Row>,
     recipes: &mut Vec<Row>,
 ) -> Result<(), NoMemory>
-    requires by_in { IsRowOver field.now by.now }
-    requires by_recipe_in { IsRowOver field.now by_recipe.now }
+    requires by_in { IsRowOver field.now by.now.row.now }
+    requires by_recipe_in { IsRowOver field.now by.now.recipe.now }
     requires rows_in { All (IsRowOver field.now) rows.old.items }
     requires recipes_in { All (IsRowOver field.now) recipes.old.items }
     requires long { length recipes.old.items ≡ length rows.old.items }
-    ensures rows { OnOk result (AreClearedAt field.now column by.now rows.old.items rows.new.items (length rows.old.items)) }
-    ensures recipes { OnOk result (RecipesFollow field.now by_recipe.now by.now recipes.old.items rows.old.items recipes.new.items rows.new.items) }
+    ensures rows { OnOk result (AreClearedAt field.now by.now.column by.now.row.now rows.old.items rows.new.items (length rows.old.items)) }
+    ensures recipes { OnOk result (RecipesFollow field.now by.now.recipe.now by.now.row.now recipes.old.items rows.old.items recipes.new.items rows.new.items) }
 {
     for k in 0..rows.len() {
-        take_off(field, column, by, by_recipe, &mut rows[k], &mut recipes[k])?;
+        take_off(field, by, &mut rows[k], &mut recipes[k])?;
     }
     Ok(())
 }
@@ -125,17 +123,41 @@ pub(crate) fn add_pivot(
     let (mut row, mut recipe) = (row, recipe);
     row.scale(field, factor);
     recipe.scale(field, factor);
-    clear_column(
-        field,
+    let by = PivotRow {
         column,
-        &row,
-        &recipe,
-        &mut kept.rows,
-        &mut kept.recipes,
-    )?;
+        row: &row,
+        recipe: &recipe,
+    };
+    clear_column(field, &by, &mut kept.rows, &mut kept.recipes)?;
     put_place(&mut kept.places, column, kept.pivots.len())?;
     kept.rows.push(row)?;
     kept.recipes.push(recipe)?;
     kept.pivots.push(column)?;
     Ok(())
+}
+
+// Keeps a row with its recipe, cleared, unless it is zero then.
+pub(crate) fn keep(
+    field: &Field,
+    kept: &mut Kept,
+    row: Row,
+    recipe: Row,
+) -> Result<Offered, NoMemory>
+    requires kept { IsEchelon field.now kept.old.pivots.items kept.old.rows.items }
+    requires index { IsIndex kept.old.pivots.items kept.old.places.items }
+    requires recipes_in { All (IsRowOver field.now) kept.old.recipes.items }
+    requires long { length kept.old.recipes.items ≡ length kept.old.rows.items }
+    requires row_in { IsRowOver field.now row }
+    requires recipe_in { IsRowOver field.now recipe }
+    ensures { IfOk result (Keeps field.now kept.old kept.new row recipe) }
+{
+    let (mut row, mut recipe) = (row, recipe);
+    clear(field, kept, &mut row, &mut recipe)?;
+    match row.lead() {
+        None => Ok(Offered::Dependent),
+        Some((column, x)) => {
+            add_pivot(field, (column, x), row, recipe, kept)?;
+            Ok(Offered::Pivot(column))
+        }
+    }
 }

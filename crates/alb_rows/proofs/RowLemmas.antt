@@ -11,12 +11,23 @@ use Rattle.std.proofs.lemmas.Bool.{cases_eq, cases_lt, cases_order, eq-eqb, ne_e
 use Rattle.gf_sums.specs.Sums.{Comb, coefficient, scale}
 use Rattle.gf_sums.proofs.Totals.{numbers-tell, total-append, weigh-scale, coefficient-weigh}
 use Rattle.alb_rows.specs.Row.{Cells, comb, entry, AreSameVector, ColumnsBelow, AreResidues, IsRow, IsRowOver, LeadsWith}
-use Rattle.alb_rows.specs.Merge.{at_column, NextFrom, AddsAt, IsAlone, IsShared, Merged, times_cells}
-use Rattle.std.specs.Prelude.{IfSome, Option, slice_get}
+use Rattle.alb_rows.specs.Merge.{at_column, NextFrom, AddsAt, Merged, times_cells}
+use Rattle.std.specs.Prelude.{IfSome, Option, slice_get, slice_index_or}
 use Rattle.gf_field.specs.Primes.{IsInTable}
 use Rattle.gf_field.specs.Modular.{IsSameMod}
 use Rattle.gf_field.proofs.Mod.{same, ◌⊙◌, of_mod, cancel_times, residues as residues_equal}
 use Rattle.gf_field.proofs.Table.{IsPrime-from_table, IsUnit-below_prime}
+
+-- the cell at place i of a stands before those of b from place k on
+pub record IsAlone (a : Cells) (i : ℕ) (b : Cells) (k : ℕ) : Type 0 where
+  pub within : i < length a
+  pub before : NextFrom ((slice_index_or a i (0, 0)).0 + 1) b k
+
+-- the cells at place i of a and at place k of b are of one column
+pub record IsShared (a : Cells) (i : ℕ) (b : Cells) (k : ℕ) : Type 0 where
+  pub left : i < length a
+  pub right : k < length b
+  pub same : (slice_index_or a i (0, 0)).0 ≡ (slice_index_or b k (0, 0)).0
 
 pub entry-append : (xs ys : Cells) (j : ℕ) → entry (xs ++ ys) j ≡ entry xs j + entry ys j
 entry-append [] ys j = omega arith

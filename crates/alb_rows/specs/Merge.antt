@@ -10,17 +10,6 @@ at_column column value j = if column == j then value else 0
 abbrev pub NextFrom : ℕ → Cells → ℕ → Type 0
 NextFrom n cells i = i < length cells → n ≤ (slice_index_or cells i (0, 0)).0
 
--- the cell at place i of a stands before those of b from place k on
-pub record IsAlone (a : Cells) (i : ℕ) (b : Cells) (k : ℕ) : Type 0 where
-  pub within : i < length a
-  pub before : NextFrom ((slice_index_or a i (0, 0)).0 + 1) b k
-
--- the cells at place i of a and at place k of b are of one column
-pub record IsShared (a : Cells) (i : ℕ) (b : Cells) (k : ℕ) : Type 0 where
-  pub left : i < length a
-  pub right : k < length b
-  pub same : (slice_index_or a i (0, 0)).0 ≡ (slice_index_or b k (0, 0)).0
-
 -- new is old with the value added at the column, which old and everything before it stands below
 pub record AddsAt (old new : Cells) (column value : ℕ) : Type 0 where
   pub entries : (j : ℕ) → entry new j ≡ entry old j + at_column column value j

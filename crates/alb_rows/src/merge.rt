@@ -46,59 +46,69 @@ fn column_at(cells: &[(u32, Residue)], k: usize) -> u64
     }
 }
 
-// Takes the cells of the left list that stand before the next one of the right list.
-fn take_left(
-    a: &[(u32, Residue)],
-    i: &mut usize,
-    b: &[(u32, Residue)],
-    k: usize,
-    out: &mut Vec<(u32, Residue)>,
-) -> Result<(), NoMemory>
-    requires a_row { IsRow a.now }
-    requires within { i.old ≤ length a.now }
-    ensures within { i.new ≤ length a.now }
-    ensures all { OnOk result (length b.now ≤ k → i.new ≡ length a.now) }
-    ensures before { OnOk result (k < length b.now → NextFrom (slice_index_or b.now k (0, 0)).0 a.now i.new) }
-    ensures merged { OnOk result ((p c : ℕ) → AreResidues p a.now → Merged p a.now c b.now i.old k out.old.items → Merged p a.now c b.now i.new k out.new.items) }
-{
-    let end = column_at(b, k);
-    while *i < a.len() && u64::from(a[*i].0) < end {
-        out.push(a[*i])?;
-        *i += 1;
-    }
-    Ok(())
+// A sum a + c b as far as it is merged.
+#[derive(Drop)]
+struct Merging {
+    // How many cells of a are taken.
+    taken: usize,
+    // The cells of the sum.
+    cells: Vec<(u32, Residue)>,
 }
 
-// Takes the next cell of the right list, with that of the left list where the column is the same.
-fn take_right(
-    field: &Field,
-    a: &[(u32, Residue)],
-    i: &mut usize,
-    c: Residue,
-    b: &[(u32, Residue)],
-    k: usize,
-    out: &mut Vec<(u32, Residue)>,
-) -> Result<(), NoMemory>
-    requires a_row { IsRow a.now }
-    requires b_row { IsRow b.now }
-    requires a_in { AreResidues field.now a.now }
-    requires b_in { AreResidues field.now b.now }
-    requires c_in { c < field.now }
-    requires a_within { i.old ≤ length a.now }
-    requires b_within { k < length b.now }
-    requires before { NextFrom (slice_index_or b.now k (0, 0)).0 a.now i.old }
-    requires merged { Merged field.now a.now c b.now i.old k out.old.items }
-    ensures within { i.new ≤ length a.now }
-    ensures merged { OnOk result (Merged field.now a.now c b.now i.new (k + 1) out.new.items) }
-{
-    let at = *i;
-    let (column, y) = b[k];
-    let y = field.mul(c, y);
-    if at < a.len() && a[at].0 == column {
-        *i = at + 1;
-        push_cell(out, column, field.add(a[at].1, y))
-    } else {
-        push_cell(out, column, y)
+impl Merging {
+    // Takes the cells of a that stand before the next one of b.
+    fn take_left(
+        &mut self,
+        a: &[(u32, Residue)],
+        b: &[(u32, Residue)],
+        k: usize,
+    ) -> Result<(), NoMemory>
+        requires a_row { IsRow a.now }
+        requires within { self.old.taken ≤ length a.now }
+        ensures within { self.new.taken ≤ length a.now }
+        ensures all { OnOk result (length b.now ≤ k → self.new.taken ≡ length a.now) }
+        ensures before { OnOk result (k < length b.now → NextFrom (slice_index_or b.now k (0, 0)).0 a.now self.new.taken) }
+        ensures merged { OnOk result ((p c : ℕ) → AreResidues p a.now → Merged p a.now c b.now self.old.taken k self.old.cells.items
+            → Merged p a.now c b.now self.new.taken k self.new.cells.items) }
+    {
+        let end = column_at(b, k);
+        'lefts: while self.taken < a.len() && u64::from(a[self.taken].0) < end {
+            self.cells.push(a[self.taken])?;
+            self.taken += 1;
+        }
+        Ok(())
+    }
+
+    // Takes the next cell of b, times c, with that of a where the column is the same.
+    fn take_right(
+        &mut self,
+        field: &Field,
+        a: &[(u32, Residue)],
+        c: Residue,
+        b: &[(u32, Residue)],
+        k: usize,
+    ) -> Result<(), NoMemory>
+        requires a_row { IsRow a.now }
+        requires b_row { IsRow b.now }
+        requires a_in { AreResidues field.now a.now }
+        requires b_in { AreResidues field.now b.now }
+        requires c_in { c < field.now }
+        requires a_within { self.old.taken ≤ length a.now }
+        requires b_within { k < length b.now }
+        requires before { NextFrom (slice_index_or b.now k (0, 0)).0 a.now self.old.taken }
+        requires merged { Merged field.now a.now c b.now self.old.taken k self.old.cells.items }
+        ensures within { self.new.taken ≤ length a.now }
+        ensures merged { OnOk result (Merged field.now a.now c b.now self.new.taken (k + 1) self.new.cells.items) }
+    {
+        let at = self.taken;
+        let (column, y) = b[k];
+        let y = field.mul(c, y);
+        if at < a.len() && a[at].0 == column {
+            self.taken = at + 1;
+            push_cell(&mut self.cells, column, field.add(a[at].1, y))
+        } else {
+            push_cell(&mut self.cells, column, y)
+        }
     }
 }
 
@@ -117,12 +127,15 @@ pub(crate) fn merged(
     requires c_in { c < field.now }
     ensures { IfOk result (λ out. Merged field.now a.now c b.now (length a.now) (length b.now) out.items) }
 {
-    let mut out = Vec::with_capacity(alloc, a.len() + b.len())?;
-    let mut i = 0;
+    let mut sum = Merging {
+        taken: 0,
+        cells: Vec::with_capacity(alloc, a.len() + b.len())?,
+    };
     for k in 0..b.len() {
-        take_left(a, &mut i, b, k, &mut out)?;
-        take_right(field, a, &mut i, c, b, k, &mut out)?;
+        sum.take_left(a, b, k)?;
+        sum.take_right(field, a, c, b, k)?;
     }
-    take_left(a, &mut i, b, b.len(), &mut out)?;
-    Ok(out)
+    sum.take_left(a, b, b.len())?;
+    let Merging { taken: _, cells } = sum;
+    Ok(cells)
 }

@@ -11,8 +11,8 @@ use Rattle.alb_poly.specs.Poly.{list_eq}
 use Rattle.alb_linear.proofs.IdentityLemmas.{list_eq-itself, list_eq-sound}
 use Rattle.alb_subst.specs.Tuples.{cmp_tuples}
 use Rattle.alb_subst.specs.declared.range.Range.{Range}
-use Rattle.alb_subst.specs.Ranges.{after, Next, Last, Heads, tuples, to_come, IsGoing, RisesFrom, AddsUp, IsTuple}
-use Rattle.alb_subst.proofs.TuplesListing.{tuples-listing}
+use Rattle.alb_subst.specs.Ranges.{after, Next, Last, Heads, tuples, to_come, IsGoing, RisesFrom, AddsUp}
+use Rattle.alb_subst.proofs.TuplesListing.{IsTuple, tuples-listing}
 
 tuple-equal : (x : List ℕ) → cmp_tuples x x ≡ Equal
 tuple-equal [] = refl

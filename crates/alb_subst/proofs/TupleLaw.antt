@@ -14,11 +14,11 @@ use Rattle.alb_table.specs.PartView.{elems, type_at}
 use Rattle.alb_table.specs.Table.{Table, IsTable}
 use Rattle.alb_table.proofs.TableLemmas.{type_shape}
 use Rattle.alb_subst.specs.declared.range.Range.{Range}
-use Rattle.alb_subst.specs.Ranges.{tuples, AddsUp, IsTuple, range_of, ranges, to_come}
+use Rattle.alb_subst.specs.Ranges.{tuples, AddsUp, range_of, ranges, to_come}
 use Rattle.alb_subst.specs.Tuples.{type_sum, IsTupleOf, AreTuples}
 use Rattle.alb_table.proofs.RiseLemmas.{le_trans}
 use Rattle.alb_subst.proofs.RangeLemmas.{minus_le, rises-ranges, long-ranges, number-type, type-range}
-use Rattle.alb_subst.proofs.TuplesListing.{tuples-listing}
+use Rattle.alb_subst.proofs.TuplesListing.{IsTuple, tuples-listing}
 use Rattle.alb_linear.proofs.LinearLemmas.{each_from_all, all_from_each}
 
 zeros : (r : List ℕ) → sum r ≡ 0 → replicate (length r) 0 ≡ r

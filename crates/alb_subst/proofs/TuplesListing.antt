@@ -11,7 +11,11 @@ use Rattle.alb_mono.specs.Types.{type_minus}
 use Rattle.alb_mono.specs.Listing.{Each, IsIn, Ascends, IsListing}
 use Rattle.alb_mono.proofs.ListingLemmas.{each-weaker, each-append, each-map, each-always, in-map, in-flat, in-left, in-right, ascends-append, ascends-map}
 use Rattle.alb_subst.specs.declared.range.Range.{Range}
-use Rattle.alb_subst.specs.Ranges.{begins, tuples, piece, RisesFrom, AddsUp, IsTuple}
+use Rattle.alb_subst.specs.Ranges.{begins, tuples, piece, RisesFrom, AddsUp}
+
+pub record IsTuple (rs : List Range) (n : ℕ) (r x : List ℕ) : Type 0 where
+  pub long : length x ≡ n
+  pub adds_up : AddsUp rs x r
 
 abbrev pub lex : List ℕ → List ℕ → Ordering
 lex = slice_cmp nat_cmp

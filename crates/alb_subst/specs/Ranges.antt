@@ -1,5 +1,6 @@
--- How tuples are enumerated: by ranges of numbers, one for each type.
-use Rattle.std.specs.Prelude.{◌≡◌, ℕ, zero, suc, ◌+◌, ◌<◌, ◌≤◌, ◌==◌, nat_le, nat_lt, Bool, true, ◌&&◌, ◌^◌, if◌then◌else◌, List, [], ◌∷◌, ◌++◌, map, sum, length}
+-- How tuples are enumerated: by ranges of numbers, one for each type. Contracts of private functions alone speak of it, and what an
+-- `Instances` keeps.
+use Rattle.std.specs.Prelude.{◌≡◌, ℕ, zero, suc, ◌+◌, ◌-◌, ◌<◌, ◌≤◌, ◌==◌, nat_le, nat_lt, Bool, true, ◌&&◌, ◌^◌, if◌then◌else◌, List, [], ◌∷◌, ◌++◌, map, sum, length}
 use Rattle.std.specs.List.{flat_map}
 use Rattle.alb_mono.specs.Tree.{type_le}
 use Rattle.alb_mono.specs.Listing.{Each, IsIn}
@@ -22,6 +23,10 @@ tuples rs (suc n) r = flat_map (λ q. if type_le q.at r then begins q.first q.co
 abbrev pub piece : List Range → ℕ → List ℕ → Range → List (List ℕ)
 piece rs n r q = if type_le q.at r then begins q.first q.count (tuples rs n (type_minus r q.at)) else []
 
+-- the tuples that begin with a number of a range after b, whose rest adds up to r
+abbrev pub later : List Range → ℕ → List ℕ → Range → ℕ → List (List ℕ)
+later rs n r q b = begins (b + 1) (q.first + q.count - (b + 1)) (tuples rs n r)
+
 -- the list begins with x
 pub record Heads (ts : List (List ℕ)) (x : List ℕ) : Type 0 where
   pub rest : List (List ℕ)
@@ -42,10 +47,6 @@ abbrev pub AddsUp : List Range → List ℕ → List ℕ → Type 0
 AddsUp rs [] r = sum r ≡ 0
 AddsUp rs (b ∷ bs) r =
     (q : Range) × IsIn q rs × (q.first ≤ b) × (b < q.first + q.count) × (type_le q.at r ≡ true) × AddsUp rs bs (type_minus r q.at)
-
-pub record IsTuple (rs : List Range) (n : ℕ) (r x : List ℕ) : Type 0 where
-  pub long : length x ≡ n
-  pub adds_up : AddsUp rs x r
 
 -- y comes right after x in the list, and: x is the last of the list
 pub record Next (ts : List (List ℕ)) (x y : List ℕ) : Type 0 where

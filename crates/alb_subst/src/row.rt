@@ -15,7 +15,7 @@ ghost use Rattle.alb_table.specs.Block.{image};
 ghost use Rattle.alb_subst.specs.Sums.{Adds, HasEntries, instance_row};
 
 use crate::columns::Columns;
-use crate::sums::add_outer;
+use crate::sums::Space;
 use alb_mono::{Mono, NoMemory};
 use alb_poly::{Linear, Term};
 use alb_rows::Row;
@@ -57,7 +57,11 @@ fn add_term(
             let left = tables.factor(alloc, l, rows)?;
             let right = tables.factor(alloc, r, rows)?;
             let (left, right) = (left.row(), right.row());
-            add_outer(tables.field(), columns, sums, t.coef, left, right);
+            let space = Space {
+                field: tables.field(),
+                columns,
+            };
+            space.add_outer(sums, t.coef, left, right);
             Ok(())
         }
     }

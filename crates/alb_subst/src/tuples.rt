@@ -1,6 +1,6 @@
 ghost use Rattle.std.specs.Prelude.{◌≡◌, ℕ, [], ◌∷◌, ◌+◌, ◌-◌, ◌*◌, ◌<◌, ◌≤◌, ◌^◌, IsTrue, true, false, length, take, drop, All};
 ghost use Rattle.alb_mono.specs.Listing.{Each};
-ghost use Rattle.alb_subst.specs.Ranges.{tuples, piece, begins, Heads, Next, Last, RisesFrom, AddsUp, range_at};
+ghost use Rattle.alb_subst.specs.Ranges.{tuples, piece, later, Heads, Next, Last, RisesFrom, AddsUp, range_at};
 ghost use Rattle.std.specs.List.{flat_map};
 
 use crate::range::Range;
@@ -65,30 +65,37 @@ fn find_range(ranges: &[Range], b: u32) -> usize
     ranges.len()
 }
 
-// The first tuple that begins with a later number of the range of `b`.
+// A number with its range.
+#[derive(Clone, Copy)]
+struct Chosen<'a> {
+    range: &'a Range,
+    number: u32,
+}
+
+// The first tuple that begins with a later number of the chosen one's range.
 fn try_later(
     ranges: &[Range],
-    q: &Range,
+    chosen: &Chosen,
     rest: &Multi,
     current: &mut Vec<u32>,
     i: usize,
-    b: u32,
 ) -> bool
     requires within { i < length current.old.items }
     requires long { Each (λ s. length s.at ≡ length rest.now) ranges.now }
-    requires number { q.now.first ≤ b }
-    requires number_below { b < q.now.first + q.now.count }
-    requires fits { q.now.first + q.now.count < 2 ^ 32 }
+    requires number { chosen.now.range.now.first ≤ chosen.now.number }
+    requires number_below { chosen.now.number < chosen.now.range.now.first + chosen.now.range.now.count }
+    requires fits { chosen.now.range.now.first + chosen.now.range.now.count < 2 ^ 32 }
     ensures len { length current.new.items ≡ length current.old.items }
     ensures kept { take i current.new.items ≡ take i current.old.items }
-    ensures found { IsTrue result → Heads (begins (b + 1) (q.now.first + q.now.count - (b + 1)) (tuples ranges.now (length current.old.items - (i + 1)) rest.now)) (drop i current.new.items) }
-    ensures none { result ≡ false → begins (b + 1) (q.now.first + q.now.count - (b + 1)) (tuples ranges.now (length current.old.items - (i + 1)) rest.now) ≡ [] }
+    ensures found { IsTrue result → Heads (later ranges.now (length current.old.items - (i + 1)) rest.now chosen.now.range.now chosen.now.number) (drop i current.new.items) }
+    ensures none { result ≡ false → later ranges.now (length current.old.items - (i + 1)) rest.now chosen.now.range.now chosen.now.number ≡ [] }
 {
-    if b + 1 >= q.first + q.count {
+    let next = chosen.number + 1;
+    if next >= chosen.range.first + chosen.range.count {
         return false;
     }
     if first_at(ranges, rest, current, i + 1) {
-        current[i] = b + 1;
+        current[i] = next;
         return true;
     }
     false
@@ -137,7 +144,11 @@ pub(crate) fn next_at(ranges: &[Range], r: &Multi, current: &mut Vec<u32>, i: us
     if next_at(ranges, &rest, current, i + 1) {
         return true;
     }
-    if try_later(ranges, q, &rest, current, i, b) {
+    let chosen = Chosen {
+        range: q,
+        number: b,
+    };
+    if try_later(ranges, &chosen, &rest, current, i) {
         return true;
     }
     try_from(ranges, k + 1, r, current, i)

@@ -1,12 +1,11 @@
 -- The rules of an accepted problem are rules that a table is built for.
-use Rattle.std.proofs.Common.{◌≡◌, ◌≢◌, ℕ, ◌<◌, ◌≤◌, ◌^◌, List, [], ◌∷◌, length, map, sum, Option, Some, None, sym, ap, ◌∙◌, subst, arith}
+use Rattle.std.proofs.Common.{◌≡◌, ◌≢◌, ℕ, ◌≤◌, List, [], ◌∷◌, length, map, sum, Option, Some, None, sym, ap, ◌∙◌, subst, arith}
 use Rattle.std.proofs.lemmas.List.{length-map}
 use Rattle.alb_mono.specs.Listing.{Each}
 use Rattle.alb_mono.specs.Tree.{Tree}
 use Rattle.alb_poly.specs.Poly.{Poly}
 use Rattle.alb_poly.specs.Identity.{IsHomogeneous}
-use Rattle.alb_poly.specs.Instance.{Form}
-use Rattle.alb_poly.specs.Rules.{form, forms}
+use Rattle.alb_poly.specs.Rules.{forms}
 use Rattle.alb_linear.specs.Identity.{DegreeOne, leading_type, identity_fault, type_fault, degree_fault, other_term}
 use Rattle.alb_linear.specs.declared.identity.Identity.{Identity}
 use Rattle.alb_linear.proofs.LinearLemmas.{IsFit, identity-fits, degree-pos}

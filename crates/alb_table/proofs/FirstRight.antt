@@ -119,12 +119,14 @@ module _ (p : ℕ) (target : List ℕ) (prime : IsInTable p) (goal : IsTarget ta
   pub first-right-table : (fs : List Form) → AreMultilinear fs → AreHigh fs → IsRightTable fs (first_table p target)
   first-right-table fs multi high = record {
     right = first-right p fs multi high target (basis_monos (first_parts 0 (types_of target 1))) (mono_entry (first_parts 0 (types_of target 1))) one none;
-    origins = λ w l c h. (let d : sum w ≤ 1 = c.degree_le in absurd (omega arith));
-    no_origins = λ w l. origins-none 0 (types_of target 1) w;
-    known = no-origins 0 (types_of target 1) (length (elems (first_parts 0 (types_of target 1))));
-    limits = record {
-      types = small-parts 0 (types_of target 1);
-      products = let e = first_products 0 (types_of target 1) in omega arith;
-      coefficients = let e = first_coefficients 0 (types_of target 1) in omega arith;
+    books = record {
+      origins = λ w l c h. (let d : sum w ≤ 1 = c.degree_le in absurd (omega arith));
+      no_origins = λ w l. origins-none 0 (types_of target 1) w;
+      known = no-origins 0 (types_of target 1) (length (elems (first_parts 0 (types_of target 1))));
+      limits = record {
+        types = small-parts 0 (types_of target 1);
+        products = let e = first_products 0 (types_of target 1) in omega arith;
+        coefficients = let e = first_coefficients 0 (types_of target 1) in omega arith;
+      };
     };
   }

@@ -1,5 +1,5 @@
 -- Values by numbers of basis elements are values by the elements.
-use Rattle.std.proofs.Common.{◌≡◌, ℕ, zero, suc, ◌*◌, ◌<◌, false, List, [], ◌∷◌, ◌++◌, length, refl, ap, ◌∙◌, arith, Bool}
+use Rattle.std.proofs.Common.{◌≡◌, ℕ, zero, suc, ◌*◌, ◌<◌, ◌≤◌, false, List, [], ◌∷◌, ◌++◌, length, refl, ap, ◌∙◌, arith, Bool}
 use Rattle.std.specs.List.{flat_map, IsDistinct, AllByRecursion}
 use Rattle.std.proofs.lemmas.List.{map-append, get_or_append_left}
 use Rattle.std.proofs.lemmas.Bool.{cases_Bool}
@@ -12,9 +12,16 @@ use Rattle.alb_poly.specs.Instance.{Form, IsMultilinearForm}
 use Rattle.alb_mono.specs.Listing.{Each}
 use Rattle.alb_poly.proofs.Multilinear.{each-from, multilinear-below}
 use Rattle.alb_poly.proofs.Consequence.{tree_tells}
-use Rattle.alb_table.specs.Right.{poly_value, mono_of, place_of, entry_by, IsNumbered}
+use Rattle.alb_table.specs.Right.{poly_value, mono_of, place_of, entry_by}
 use Rattle.alb_table.specs.Block.{image, spread, form_row}
 use Rattle.alb_table.proofs.Values.{each-multiply}
+
+-- the monomials differ, entries have numbers of basis monomials, and the first `n` basis monomials are the generators
+pub record IsNumbered (n : ℕ) (monos : List Tree) (product : ℕ → ℕ → Comb ℕ) : Type 0 where
+  pub different : IsDistinct same_tree monos
+  pub entries : (b c : ℕ) → b < length monos → c < length monos → Each (λ t. t.1 < length monos) (product b c)
+  pub many : n ≤ length monos
+  pub generators : (k : ℕ) → k < n → mono_of monos k ≡ leaf k
 
 reindex-scale : {I J : Type 0} (h : I → J) (c : ℕ) (f : Comb I) → reindex h (scale c f) ≡ scale c (reindex h f)
 reindex-scale h c [] = refl

@@ -15,7 +15,7 @@ use Rattle.alb_linear.proofs.IdentityLemmas.{list_eq-sound, list_eq-itself}
 use Rattle.alb_table.specs.PartView.{PartView, part_view, first_of, dim_of, elems, types, type_at, entries_at, origins_at, part_at}
 use Rattle.alb_table.specs.Entry.{products_of, products, entry_of}
 use Rattle.alb_table.specs.Stored.{grids_from}
-use Rattle.alb_table.specs.Views.{numbers_from, part_number, view_of, views, IsStored, AreStored, IsStore, IsFull, Pushes, Grows, Extends}
+use Rattle.alb_table.specs.Views.{numbers_from, part_number, view_of, views, IsStored, AreStored, IsStore, IsFull, Pushes, Grows}
 use Rattle.alb_table.specs.declared.store.Store.{Store}
 use Rattle.std.specs.Arc.{arc_value}
 use Rattle.std.specs.declared.sync.Arc.{Arc}
@@ -29,6 +29,14 @@ use Rattle.alb_mono.proofs.ListingLemmas.{each-at, each-weaker}
 use Rattle.alb_mono.proofs.TypeLemmas.{plus_at, length-type_plus}
 use Rattle.alb_table.specs.declared.stored.Stored.{Stored}
 use Rattle.alb_table.specs.declared.part.Part.{Part}
+
+-- what stays true while parts are taken from `left`, the last one first
+pub record Extends (parts total : List PartView) (store : Store) (left : List Part) : Type 0 where
+  pub parts_are : views store ++ map part_view (reverse left) ≡ total
+  pub numbers : store.part_of.items ≡ numbers_from 0 (views store)
+  pub elements : store.elems.items ≡ elems (views store)
+  pub stored : AreStored parts store.parts.items
+  pub each : Each (IsFull parts) (map part_view (reverse left))
 
 pub list_eq-other : (t u : List ℕ) → (t ≡ u → ⊥) → list_eq t u ≡ false
 list_eq-other t u h = elim (cases_Bool (list_eq t u)) [ inl e ↦ absurd (h (list_eq-sound t u e)) | inr e ↦ e ]

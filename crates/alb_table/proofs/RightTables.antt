@@ -20,7 +20,8 @@ use Rattle.alb_table.specs.declared.part.Elem.{Elem}
 use Rattle.alb_table.specs.declared.part.Elem.TheVariants.{Gen}
 use Rattle.alb_table.specs.Entry.{entry_of, table_product}
 use Rattle.alb_table.specs.Table.{Table, IsTable}
-use Rattle.alb_table.specs.Right.{IsOfType, IsBasisTo, IsTypeTo, IsRight, mono_of, IsNumbered}
+use Rattle.alb_table.specs.Right.{IsOfType, IsBasisTo, IsTypeTo, IsRight, mono_of}
+use Rattle.alb_table.proofs.Numbers.{IsNumbered}
 use Rattle.alb_table.specs.RightTable.{basis_monos, mono_entry}
 use Rattle.alb_table.specs.Leading.{IsNormal}
 use Rattle.alb_table.proofs.Right.{of_type-within, within-type, within-of_type}

@@ -21,7 +21,7 @@ use Rattle.alb_table.specs.Entry.{table_product}
 use Rattle.alb_table.specs.Laws.{Decides, IsPolyWithin, HasValue, ValuesAgree, ValuesDecide}
 use Rattle.alb_table.specs.Leading.{IsNormal}
 use Rattle.alb_table.specs.PartView.{elems, type_at, monos, mono_at}
-use Rattle.alb_table.specs.Right.{IsNumbered, poly_value}
+use Rattle.alb_table.specs.Right.{poly_value}
 use Rattle.alb_table.specs.RightFor.{RulesView, IsRightFor}
 use Rattle.alb_table.specs.RightTable.{basis_monos, mono_entry}
 use Rattle.alb_table.specs.Table.{Table}
@@ -30,7 +30,7 @@ use Rattle.alb_table.proofs.Coefficients.{each-coefficient}
 use Rattle.alb_table.proofs.Congruent.{congruent-alike, congruent-joined}
 use Rattle.alb_table.proofs.FirstLemmas.{few_generators}
 use Rattle.alb_table.proofs.LawLemmas.{monomial-values-decide}
-use Rattle.alb_table.proofs.Numbers.{value-by_numbers, coefficient-reindex}
+use Rattle.alb_table.proofs.Numbers.{IsNumbered, value-by_numbers, coefficient-reindex}
 use Rattle.alb_table.proofs.Right.{of_type-degree}
 use Rattle.alb_table.proofs.RightForLemmas.{right-positive}
 use Rattle.alb_table.proofs.RightTables.{columns-below, numbered, number-type, number-basis, numbers-differ}

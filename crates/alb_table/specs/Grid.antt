@@ -25,6 +25,8 @@ find_entry k [] es = None
 find_entry k (x ∷ xs) [] = None
 find_entry k (x ∷ xs) (e ∷ es) = if same_pair x k then Some e else find_entry k xs es
 
+-- ---- how a product is found. What is stored keeps the first two; the others stand in contracts of private functions alone.
+
 -- each rectangle begins where those before it end
 abbrev pub OffsetsFrom : ℕ → List Grid → Type 0
 OffsetsFrom n [] = Unit {0}

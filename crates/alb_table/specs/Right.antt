@@ -1,7 +1,7 @@
 -- Right tables over monomials, and their values. A table gives each type its basis, and each product of two basis monomials its
 -- entry, a combination of basis monomials.
-use Rattle.std.specs.Prelude.{◌≡◌, ℕ, suc, if◌then◌else◌, ◌<◌, ◌≤◌, IsTrue, List, [], ◌∷◌, length, slice_index_or, sum}
-use Rattle.std.specs.List.{Contains, IsDistinct}
+use Rattle.std.specs.Prelude.{◌≡◌, ℕ, suc, if◌then◌else◌, ◌≤◌, IsTrue, List, [], ◌∷◌, length, slice_index_or, sum}
+use Rattle.std.specs.List.{Contains}
 use Rattle.std.specs.List.Sorted.{IsStrictlySortedBy}
 use Rattle.gf_sums.specs.Sums.{Comb, reindex}
 use Rattle.alb_mono.specs.Listing.{Each}
@@ -92,10 +92,3 @@ place_of (m ∷ monos) x = if same_tree m x then 0 else suc (place_of monos x)
 -- the entries over monomials, by those over numbers
 abbrev pub entry_by : List Tree → (ℕ → ℕ → Comb ℕ) → Tree → Tree → Poly
 entry_by monos product x y = reindex (mono_of monos) (product (place_of monos x) (place_of monos y))
-
--- the monomials differ, entries have numbers of basis monomials, and the first `n` basis monomials are the generators
-pub record IsNumbered (n : ℕ) (monos : List Tree) (product : ℕ → ℕ → Comb ℕ) : Type 0 where
-  pub different : IsDistinct same_tree monos
-  pub entries : (b c : ℕ) → b < length monos → c < length monos → Each (λ t. t.1 < length monos) (product b c)
-  pub many : n ≤ length monos
-  pub generators : (k : ℕ) → k < n → mono_of monos k ≡ leaf k

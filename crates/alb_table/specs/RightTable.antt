@@ -24,12 +24,21 @@ mono_entry parts = entry_by (monos parts) (table_product parts)
 abbrev pub instance_at : List PartView → ℕ × List ℕ → ℕ × List Tree
 instance_at parts o = (o.0, map (mono_at parts) o.1)
 
--- A RIGHT TABLE: its bases are the normal monomials, its entries stand for the products of these, the origins of each type are
--- as many instances as the type has pivots, with the span of all its instances, so none at degree 1, and no limit is passed.
-pub record IsRightTable (fs : List Form) (t : Table) : Type 0 where
-  pub right : IsRight t.p fs t.target t.degree (basis_monos t.parts) (mono_entry t.parts)
+-- THE MATHEMATICS of a right table: its bases are the normal monomials, and its entries stand for the products of these.
+abbrev pub IsMultiplicationTable : List Form → Table → Type 0
+IsMultiplicationTable fs t = IsRight t.p fs t.target t.degree (basis_monos t.parts) (mono_entry t.parts)
+
+-- THE BOOKKEEPING: the origins of each type of degree 2 or more are as many instances as the type has pivots, with the span of
+-- all its instances; a type of less degree has none; they name basis elements of the table; and no limit is passed.
+pub record KeepsBooks (fs : List Form) (t : Table) : Type 0 where
   pub origins : (w : List ℕ) → length w ≡ length t.target → CoversType t w → 2 ≤ sum w
       → AreOriginsAt t.p fs t.target (sum w - 1) (mono_entry t.parts) w (map (instance_at t.parts) (origins_at t.parts w))
   pub no_origins : (w : List ℕ) → sum w ≤ 1 → origins_at t.parts w ≡ []
   pub known : Each (λ q. Each (λ o. Each (λ b. b < length (elems t.parts)) o.1) q.origins) t.parts
   pub limits : IsWithinLimits t
+
+-- A RIGHT TABLE: a multiplication table of the relatively free algebra of the forms, with its books
+pub record IsRightTable (fs : List Form) (t : Table) : Type 0 where
+  pub right : IsMultiplicationTable fs t
+  pub books : KeepsBooks fs t
+  pub open books use *

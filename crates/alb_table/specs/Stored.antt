@@ -1,4 +1,4 @@
--- How the products of a type are stored.
+-- How the products of a type are stored. Contracts of private functions alone speak of it.
 use Rattle.std.specs.Prelude.{ℕ, ◌+◌, ◌*◌, List, [], ◌∷◌}
 use Rattle.alb_table.specs.declared.grid.Grid.{Grid}
 use Rattle.alb_table.specs.PartView.{PartView, first_of, dim_of}

@@ -1,5 +1,5 @@
 -- The views of what is stored.
-use Rattle.std.specs.Prelude.{◌≡◌, ℕ, suc, ◌^◌, ◌<◌, List, [], ◌∷◌, ◌++◌, map, length, replicate, reverse, Option, Some, None, if◌then◌else◌}
+use Rattle.std.specs.Prelude.{◌≡◌, ℕ, suc, ◌^◌, ◌<◌, List, [], ◌∷◌, ◌++◌, map, length, replicate, Option, Some, None, if◌then◌else◌}
 use Rattle.std.specs.List.{flat_map}
 use Rattle.std.specs.Arc.{arc_value}
 use Rattle.std.specs.declared.sync.Arc.{Arc}
@@ -7,7 +7,6 @@ use Rattle.std.specs.declared.alloc.Global.{Global}
 use Rattle.alb_mono.specs.Listing.{Each}
 use Rattle.alb_mono.specs.Types.{splits}
 use Rattle.alb_poly.specs.Poly.{list_eq}
-use Rattle.alb_table.specs.declared.part.Part.{Part}
 use Rattle.alb_table.specs.declared.stored.Stored.{Stored}
 use Rattle.alb_table.specs.declared.store.Store.{Store}
 use Rattle.alb_table.specs.PartView.{PartView, part_view, elems}
@@ -68,14 +67,6 @@ pub record Grows (old : Store) (more : List PartView) (new : Store) : Type 0 whe
   pub numbers : new.part_of.items ≡ numbers_from 0 (views new)
   pub elements : new.elems.items ≡ elems (views new)
   pub stored : AreStored (views old) new.parts.items
-
--- what stays true while parts are taken from `left`, the last one first
-pub record Extends (parts total : List PartView) (store : Store) (left : List Part) : Type 0 where
-  pub parts_are : views store ++ map part_view (reverse left) ≡ total
-  pub numbers : store.part_of.items ≡ numbers_from 0 (views store)
-  pub elements : store.elems.items ≡ elems (views store)
-  pub stored : AreStored parts store.parts.items
-  pub each : Each (IsFull parts) (map part_view (reverse left))
 
 -- what the model of a table keeps: its store is right, and it is a table
 pub record IsKept (t : Table) (s : Store) : Type 0 where

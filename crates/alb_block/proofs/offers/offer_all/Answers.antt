@@ -8,7 +8,7 @@ use Rattle.alb_block.proofs.offers.offer_all.Goals as goal
 
 pub loop-k-init : goal.loop-k-init
 loop-k-init c =
-    let s : Setting = setting c.args.rules.now c.args.tables.now c.args.t.now in
+    let s : Setting = setting c.args.from.now.rules.now c.args.from.now.tables.now c.args.from.now.at.now in
     let e = c.new.ensures in
     let none : map origin_view c.new-2.result.items ≡ [] = ap (map origin_view) c.new-2.ensures.items in
     record {

@@ -6,6 +6,6 @@ use Rattle.alb_block.proofs.offers.offer_all.Given as goal
 
 abbrev pub invariant-loop-k : goal.invariant-loop-k
 invariant-loop-k l = record {
-  kept : AreKept (setting l.rules l.tables l.t) l.offers.echelon (map origin_view l.offers.origins.items);
-  before : HasBefore (setting l.rules l.tables l.t) l.offers.echelon l.k;
+  kept : AreKept (setting l.from.rules.now l.from.tables.now l.from.at.now) l.offers.echelon (map origin_view l.offers.origins.items);
+  before : HasBefore (setting l.from.rules.now l.from.tables.now l.from.at.now) l.offers.echelon l.k;
 }

@@ -8,30 +8,30 @@ use Rattle.alb_table.proofs.RightForLemmas.{right-linearized}
 use Rattle.alb_subst.specs.Sums.{HasEntries, instance_row}
 use Rattle.alb_block.specs.Asked.{setting}
 use Rattle.alb_block.specs.Instances.{Setting, IsInstance}
-use Rattle.alb_block.specs.Offers.{Lacks, HasMore, IsRowOf}
-use Rattle.alb_block.proofs.OfferLemmas.{form_item, item-form, row-of, lacks-less, before-more, before-next}
+use Rattle.alb_block.specs.Offers.{HasMore, IsRowOf}
+use Rattle.alb_block.proofs.OfferLemmas.{Lacks, form_item, item-form, row-of, lacks-less, before-more, before-next}
 use Rattle.alb_block.proofs.offers.offer_form.Goals as goal
 
 pub open-requires-clause-few : goal.open-requires-clause-few
 open-requires-clause-few c =
-    item-form (λ f. f.degree ≤ 8) c.args.rules.now.linears.items c.args.k c.index-f.result.now c.requires.rules.low c.requires.form c.index-f.ensures
+    item-form (λ f. f.degree ≤ 8) c.args.from.now.rules.now.linears.items c.args.k c.index-f.result.now c.requires.rules.low c.requires.form c.index-f.ensures
 
 pub row_of-requires-clause-form : goal.row_of-requires-clause-form
 row_of-requires-clause-form c =
-    item-form (IsLinearized c.args.tables.now.p) c.args.rules.now.linears.items c.args.k c.index-f.result.now
-    (right-linearized (rules_view c.args.rules.now) c.args.tables.now c.requires.rules c.requires.right) c.requires.form c.index-f.ensures
+    item-form (IsLinearized c.args.from.now.tables.now.p) c.args.from.now.rules.now.linears.items c.args.k c.index-f.result.now
+    (right-linearized (rules_view c.args.from.now.rules.now) c.args.from.now.tables.now c.requires.rules c.requires.right) c.requires.form c.index-f.ensures
 
 pub loop-tuple-preserved : goal.loop-tuple-preserved
 loop-tuple-preserved c =
-    let s : Setting = setting c.args.rules.now c.args.tables.now c.args.t.now in
-    let e : form c.index-f.result.now ≡ form_at s.forms c.args.k = form_item c.args.rules.now.linears.items c.args.k c.index-f.result.now c.requires.form c.index-f.ensures in
+    let s : Setting = setting c.args.from.now.rules.now c.args.from.now.tables.now c.args.from.now.at.now in
+    let e : form c.index-f.result.now ≡ form_at s.forms c.args.k = form_item c.args.from.now.rules.now.linears.items c.args.k c.index-f.result.now c.requires.form c.index-f.ensures in
     let x : List ℕ = c.in-Some.tuple.items in
     let l : Lacks s c.loop-tuple.offers.echelon c.args.k (x ∷ c.next.new.self) =
     subst (Lacks s c.loop-tuple.offers.echelon c.args.k) c.in-Some.ensures.some c.loop-tuple.invariant.lacks in
-    let i : IsInstance s (c.args.k, x) = record { form = omega (arith, c.requires.form, length-map c.args.rules.now.linears.items form); tuple = l.each.0 } in
-    let h : HasEntries s.p c.args.columns.now c.in_ok-row.row (instance_row s.parts (form c.index-f.result.now) x) =
-    subst (λ (xs : List ℕ). HasEntries s.p c.args.columns.now c.in_ok-row.row (instance_row s.parts (form c.index-f.result.now) xs)) c.as_slice.ensures.value c.in_ok-row.ensures.entries in
-    let r : IsRowOf s (c.args.k, x) c.in_ok-row.row = row-of s (c.args.k, x) c.args.columns.now c.in_ok-row.row (form c.index-f.result.now) c.requires.columns_are e h c.in_ok-row.ensures.columns in
+    let i : IsInstance s (c.args.k, x) = record { form = omega (arith, c.requires.form, length-map c.args.from.now.rules.now.linears.items form); tuple = l.each.0 } in
+    let h : HasEntries s.p c.args.from.now.columns.now c.in_ok-row.row (instance_row s.parts (form c.index-f.result.now) x) =
+    subst (λ (xs : List ℕ). HasEntries s.p c.args.from.now.columns.now c.in_ok-row.row (instance_row s.parts (form c.index-f.result.now) xs)) c.as_slice.ensures.value c.in_ok-row.ensures.entries in
+    let r : IsRowOf s (c.args.k, x) c.in_ok-row.row = row-of s (c.args.k, x) c.args.from.now.columns.now c.in_ok-row.row (form c.index-f.result.now) c.requires.columns_are e h c.in_ok-row.ensures.columns in
     let m : HasMore s c.loop-tuple.offers.echelon c.in_ok-offers.offers.echelon (c.args.k, x) = c.in_ok-offers.ensures.more s c.loop-tuple.invariant.kept r in
     record {
       kept = c.in_ok-offers.ensures.kept s c.loop-tuple.invariant.kept i r;
@@ -41,6 +41,6 @@ loop-tuple-preserved c =
 
 pub returns-clause-before : goal.returns-clause-before
 returns-clause-before c =
-    let s : Setting = setting c.args.rules.now c.args.tables.now c.args.t.now in
+    let s : Setting = setting c.args.from.now.rules.now c.args.from.now.tables.now c.args.from.now.at.now in
     before-next s c.loop-tuple.offers.echelon c.args.k c.loop-tuple.invariant.before
     (subst (Lacks s c.loop-tuple.offers.echelon c.args.k) c.in_default.ensures.none.0 c.loop-tuple.invariant.lacks)

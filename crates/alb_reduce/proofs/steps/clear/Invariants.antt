@@ -1,6 +1,7 @@
 use Rattle.std.proofs.Common.{ℕ, take}
 use Rattle.alb_rows.specs.Row.{entry, IsRowOver}
-use Rattle.alb_reduce.specs.Echelon.{AreTakenOff, Agrees, AllAgree}
+use Rattle.alb_reduce.specs.Echelon.{Agrees, AllAgree}
+use Rattle.alb_reduce.proofs.PlaceLemmas.{AreTakenOff}
 use Rattle.alb_reduce.proofs.steps.clear.Given as goal
 
 abbrev pub invariant-loop-place : goal.invariant-loop-place

@@ -7,8 +7,8 @@ use Rattle.alb_subst.proofs.tuples.try_later.Goals as goal
 pub returns-then-first_at-clause-found : goal.returns-then-first_at-clause-found
 returns-then-first_at-clause-found c = λ _.
     let l = c.first_at.ensures.len in
-    let e = drop-set c.first_at.new.current.items c.args.i (c.args.b + 1) (omega arith) in
-    subst (Heads _) (sym e) (begins_heads (c.args.b + 1) _ _ _ (omega arith) (c.first_at.ensures.found (search rules)))
+    let e = drop-set c.first_at.new.current.items c.args.i (c.args.chosen.now.number + 1) (omega arith) in
+    subst (Heads _) (sym e) (begins_heads (c.args.chosen.now.number + 1) _ _ _ (omega arith) (c.first_at.ensures.found (search rules)))
 
 pub returns-clause-kept : goal.returns-clause-kept
 returns-clause-kept c =
@@ -16,4 +16,4 @@ returns-clause-kept c =
     ∙ take-take c.args.i (c.args.i + 1) c.args.current.now.items (omega arith)
 
 pub returns-clause-none : goal.returns-clause-none
-returns-clause-none c = λ _. rw (c.first_at.ensures.none c.if-first_at.false) (begins_none (c.args.b + 1) (c.args.q.now.first + c.args.q.now.count - (c.args.b + 1)))
+returns-clause-none c = λ _. rw (c.first_at.ensures.none c.if-first_at.false) (begins_none (c.args.chosen.now.number + 1) (c.args.chosen.now.range.now.first + c.args.chosen.now.range.now.count - (c.args.chosen.now.number + 1)))
