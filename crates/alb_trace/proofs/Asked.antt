@@ -14,6 +14,7 @@ use Rattle.alb_deriv.specs.Short.{IsSumOf}
 use Rattle.alb_table.specs.Block.{spread}
 use Rattle.alb_table.specs.PartView.{elems, type_at}
 use Rattle.alb_table.specs.Right.{poly_value, IsWithin}
+use Rattle.alb_table.specs.RightFor.{RulesView, IsRightFor}
 use Rattle.alb_table.specs.RightTable.{basis_monos, mono_entry}
 use Rattle.alb_table.specs.Table.{Table, IsTable, CoversType}
 use Rattle.alb_table.proofs.PartLemmas.{sum-plus}
@@ -21,7 +22,6 @@ use Rattle.alb_table.proofs.Right.{consequence-zero_value}
 use Rattle.alb_table.proofs.TableLemmas.{type_shape}
 use Rattle.alb_query.specs.Answer.{Zero, NotBuilt, OutOfType, misfit, IsAnswer, AnswersUnless, AnswersFitting}
 use Rattle.alb_query.proofs.AnswerLemmas.{all-within}
-use Rattle.alb_trace.specs.Given.{IsRightOver}
 use Rattle.alb_trace.specs.Origins.{product_type}
 use Rattle.alb_trace.specs.Recipes.{IsProduct}
 use Rattle.alb_trace.specs.Trace.{mono_less}
@@ -62,11 +62,11 @@ pub answered-within : (p : ℕ) (fs : List Form) (target : List ℕ) (d : ℕ) (
 answered-within p fs target d g a = let z = zero-within p fs target d g a in all-within target d g z.fits z.low
 
 -- what has the answer zero is the sum of its monomials less their values
-pub answered-sum : (fs : List Form) (t : Table) → IsRightOver fs t → (g : Poly) → IsAnswer t.p fs t.target t.degree g Zero → (ls : List Line) (cs : List (ℕ × ℕ)) → IsSumOf t.p fs ls cs (spread (mono_less t) g) →
-    IsSumOf t.p fs ls cs g
+pub answered-sum : (given : RulesView) (t : Table) → IsRightFor given t → (g : Poly) → IsAnswer t.p given.forms t.target t.degree g Zero → (ls : List Line) (cs : List (ℕ × ℕ)) → IsSumOf t.p given.forms ls cs (spread (mono_less t) g) →
+    IsSumOf t.p given.forms ls cs g
 unfolding mono_less
-answered-sum fs t r g a ls cs s =
-    let z = zero-within t.p fs t.target t.degree g a in
+answered-sum given t r g a ls cs s =
+    let z = zero-within t.p given.forms t.target t.degree g a in
     let v : Alike t.p (poly_value (mono_entry t.parts) g) [] =
-    consequence-zero_value t.p (pos fs t r) fs r.multilinear r.high t.target t.degree (basis_monos t.parts) (mono_entry t.parts) r.right.right g (answered-within t.p fs t.target t.degree g a) z.consequence in
-    zero_value-sum t.p (pos fs t r) fs (mono_entry t.parts) ls g cs s v
+    consequence-zero_value t.p (pos given t r) given.forms r.multilinear r.high t.target t.degree (basis_monos t.parts) (mono_entry t.parts) r.right.right g (answered-within t.p given.forms t.target t.degree g a) z.consequence in
+    zero_value-sum t.p (pos given t r) given.forms (mono_entry t.parts) ls g cs s v

@@ -21,6 +21,7 @@ use Rattle.alb_poly.proofs.Multilinear.{each-from, each_from_all}
 use Rattle.alb_poly.proofs.Parts.{multilinear_at}
 use Rattle.alb_table.specs.Leading.{IsZeroAt}
 use Rattle.alb_table.specs.PartView.{PartView, elems, origins_at, mono_at}
+use Rattle.alb_table.specs.RightFor.{RulesView, IsRightFor}
 use Rattle.alb_table.specs.Table.{Table, CoversType}
 use Rattle.alb_table.specs.Right.{IsBasisTo, IsRight, IsTypeTo, IsOfType, IsWithin}
 use Rattle.alb_table.specs.RightTable.{basis_monos, mono_entry, instance_at}
@@ -49,7 +50,6 @@ use Rattle.alb_table.proofs.RightTables.{columns-below}
 use Rattle.alb_poly.proofs.Consequence.{itself'}
 use Rattle.alb_block.proofs.ColumnLemmas.{columns-are, columns-in}
 use Rattle.alb_block.proofs.InstanceLemmas.{row-monos, row-in, vector-pairs}
-use Rattle.alb_trace.specs.Given.{IsRightOver}
 use Rattle.alb_trace.specs.Origins.{origin_at, origin_row, IsOriginBlock}
 use Rattle.alb_trace.specs.Trace.{product_less}
 use Rattle.alb_trace.proofs.OfferedLemmas.{with_past, number_below, reduced_through}
@@ -115,7 +115,7 @@ origins-known P (q ∷ qs) w a = elim (cases_Bool (list_eq q.at w)) [
   | inr e ↦ rw e (origins-known P qs w a.1)
 ]
 
-module _ (fs : List Form) (t : Table) (g : IsRightOver fs t) (w : List ℕ) (cov : CoversType t w) (long : length w ≡ length t.target) (big : 2 ≤ sum w) where
+module _ (given : RulesView) (t : Table) (g : IsRightFor given t) (w : List ℕ) (cov : CoversType t w) (long : length w ≡ length t.target) (big : 2 ≤ sum w) where
   -- the degree below
   abbrev pub low : ℕ
   low = sum w - 1
@@ -132,11 +132,11 @@ module _ (fs : List Form) (t : Table) (g : IsRightOver fs t) (w : List ℕ) (cov
   pub to : IsTypeTo t.target (low + 1) w
   to = record { counts = long; le = cov.within; degree = omega (arith, next) }
 
-  pub right : IsRight t.p fs t.target (low + 1) (basis_monos t.parts) entries
-  right = right-lower t.p (pos fs t g) fs g.multilinear g.high t.target (low + 1) t.degree (omega (arith, cov.degree_le, next)) (basis_monos t.parts) entries g.right.right
+  pub right : IsRight t.p given.forms t.target (low + 1) (basis_monos t.parts) entries
+  right = right-lower t.p (pos given t g) given.forms g.multilinear g.high t.target (low + 1) t.degree (omega (arith, cov.degree_le, next)) (basis_monos t.parts) entries g.right.right
 
   -- a product of the type has factors of smaller degree
-  lower-column : (m : Tree) → IsColumnAt t.p fs t.target t.degree w m → IsColumnAt t.p fs t.target low w m
+  lower-column : (m : Tree) → IsColumnAt t.p given.forms t.target t.degree w m → IsColumnAt t.p given.forms t.target low w m
   lower-column m h =
       let o : IsOfType w (node h.left h.right) = subst (IsOfType w) h.product h.type in
       let e : degree (node h.left h.right) ≡ sum w = of_type-degree w (node h.left h.right) o in
@@ -151,7 +151,7 @@ module _ (fs : List Form) (t : Table) (g : IsRightOver fs t) (w : List ℕ) (cov
         type = h.type;
       }
 
-  upper-column : (m : Tree) → IsColumnAt t.p fs t.target low w m → IsColumnAt t.p fs t.target t.degree w m
+  upper-column : (m : Tree) → IsColumnAt t.p given.forms t.target low w m → IsColumnAt t.p given.forms t.target t.degree w m
   upper-column m h =
       let n : sum w ≤ t.degree = cov.degree_le in
       record {
@@ -169,54 +169,54 @@ module _ (fs : List Form) (t : Table) (g : IsRightOver fs t) (w : List ℕ) (cov
   small : length t.target ≤ 26
   small = omega (arith, few_generators t.target g.table.goal)
 
-  pub are : AreColumns (IsColumnAt t.p fs t.target low w) cols
+  pub are : AreColumns (IsColumnAt t.p given.forms t.target low w) cols
   are =
-      let a = columns-are fs t g.table g.right.right small w long in
+      let a = columns-are given.forms t g.table g.right.right small w long in
       record {
         descends = a.descends;
-        columns = each-weaker (IsColumnAt t.p fs t.target t.degree w) (IsColumnAt t.p fs t.target low w) cols lower-column a.columns;
+        columns = each-weaker (IsColumnAt t.p given.forms t.target t.degree w) (IsColumnAt t.p given.forms t.target low w) cols lower-column a.columns;
         whole = λ m h. a.whole m (upper-column m h);
       }
 
-  pub over-low : IsTable t.p fs (IsWithin t.target low) (IsBasisTo t.p fs t.target low) entries
-  over-low = right-table t.p (pos fs t g) fs g.multilinear g.high t.target low (basis_monos t.parts) entries
-      (right-lower t.p (pos fs t g) fs g.multilinear g.high t.target low (low + 1) (omega arith) (basis_monos t.parts) entries right)
+  pub over-low : IsTable t.p given.forms (IsWithin t.target low) (IsBasisTo t.p given.forms t.target low) entries
+  over-low = right-table t.p (pos given t g) given.forms g.multilinear g.high t.target low (basis_monos t.parts) entries
+      (right-lower t.p (pos given t g) given.forms g.multilinear g.high t.target low (low + 1) (omega arith) (basis_monos t.parts) entries right)
 
   -- ---- the kept instances
 
   abbrev pub names : List (ℕ × List ℕ)
   names = origins_at t.parts w
 
-  pub kept-origins : AreOriginsAt t.p fs t.target low entries w (map (instance_at t.parts) names)
+  pub kept-origins : AreOriginsAt t.p given.forms t.target low entries w (map (instance_at t.parts) names)
   kept-origins = g.right.origins w long cov big
 
   pub origin-numbers : Each (λ o. Each (λ b. b < length (elems t.parts)) o.1) names
   origin-numbers = origins-known (λ o. Each (λ b. b < length (elems t.parts)) o.1) t.parts w g.right.known
 
   module _ (k : ℕ) (here : k < length names) where
-    pub origin-named : IsTupleAt t.p fs t.target low w (instance_at t.parts (origin_at names k))
-    origin-named = each-at (λ o. IsTupleAt t.p fs t.target low w (instance_at t.parts o)) names k (0, [])
-        (each-unmap (IsTupleAt t.p fs t.target low w) (instance_at t.parts) names kept-origins.named) here
+    pub origin-named : IsTupleAt t.p given.forms t.target low w (instance_at t.parts (origin_at names k))
+    origin-named = each-at (λ o. IsTupleAt t.p given.forms t.target low w (instance_at t.parts o)) names k (0, [])
+        (each-unmap (IsTupleAt t.p given.forms t.target low w) (instance_at t.parts) names kept-origins.named) here
 
     pub origin-below : Each (λ b. b < length (elems t.parts)) (origin_at names k).1
     origin-below = each-at (λ o. Each (λ b. b < length (elems t.parts)) o.1) names k (0, []) origin-numbers here
 
-    pub origin-long : length (origin_at names k).1 ≡ (form_at fs (origin_at names k).0).degree
+    pub origin-long : length (origin_at names k).1 ≡ (form_at given.forms (origin_at names k).0).degree
     origin-long = sym (length-map (origin_at names k).1 (mono_at t.parts)) ∙ origin-named.full
 
     -- its row over numbers and over monomials is one vector
-    pub origin-vector : (j : ℕ) → instance_vector (setting_of fs t w) (origin_at names k) j ≡ vector_of cols (tuple_row fs entries (instance_at t.parts (origin_at names k))) j
+    pub origin-vector : (j : ℕ) → instance_vector (setting_of given.forms t w) (origin_at names k) j ≡ vector_of cols (tuple_row given.forms entries (instance_at t.parts (origin_at names k))) j
     origin-vector j =
         let name : ℕ × List ℕ = origin_at names k in
-        let f : Form = form_at fs name.0 in
-        let m : IsMultilinearForm f = multilinear_at fs name.0 g.multilinear in
-        sym (ap (λ h. vector_of cols h j) (sym (row-monos fs t g.table g.right.right f name.1 m origin-below origin-long))
-        ∙ vector-pairs fs t g.table g.right.right (columns_of t.parts w) (instance_row t.parts f name.1) j (columns-in fs t g.table g.right.right small w)
-        (row-in fs t g.table g.right.right f name.1 m origin-below origin-long))
+        let f : Form = form_at given.forms name.0 in
+        let m : IsMultilinearForm f = multilinear_at given.forms name.0 g.multilinear in
+        sym (ap (λ h. vector_of cols h j) (sym (row-monos given.forms t g.table g.right.right f name.1 m origin-below origin-long))
+        ∙ vector-pairs given.forms t g.table g.right.right (columns_of t.parts w) (instance_row t.parts f name.1) j (columns-in given.forms t g.table g.right.right small w)
+        (row-in given.forms t g.table g.right.right f name.1 m origin-below origin-long))
 
   -- ---- the rows of the kept instances, reduced
 
-  module _ (columns : List (ℕ × ℕ)) (r : Reduction) (block : IsOriginBlock fs t w columns r) where
+  module _ (columns : List (ℕ × ℕ)) (r : Reduction) (block : IsOriginBlock given.forms t w columns r) where
     abbrev family : ℕ → ℕ → ℕ
     family = offered r.offers
 
@@ -232,38 +232,38 @@ module _ (fs : List Form) (t : Table) (g : IsRightOver fs t) (w : List ℕ) (cov
     instance-is : (k : ℕ) → k < length names → get_or instances k other ≡ instance_at t.parts (origin_at names k)
     instance-is k l = get_or-map (instance_at t.parts) names k (0, []) other l
 
-    family-rows : (k i : ℕ) → k < length instances → IsSameMod t.p (family k i) (vector_of cols (tuple_row fs entries (get_or instances k other)) i)
+    family-rows : (k i : ℕ) → k < length instances → IsSameMod t.p (family k i) (vector_of cols (tuple_row given.forms entries (get_or instances k other)) i)
     family-rows k i l =
         let m : k < length names = omega (arith, count) in
-        subst (λ n. IsSameMod t.p (family k i) (vector_of cols (tuple_row fs entries n) i)) (sym (instance-is k m))
+        subst (λ n. IsSameMod t.p (family k i) (vector_of cols (tuple_row given.forms entries n) i)) (sym (instance-is k m))
         (block.offered_all.rows k m i ⊙ same (origin-vector k m i))
 
     family-past : (k i : ℕ) → length instances ≤ k → IsSameMod t.p (family k i) 0
     family-past k i l = same (ap (λ (x : Cells). entry x i) (with_past r.offers (length names) k block.offered_all.below (omega (arith, count))))
 
-    in-columns : (x : Poly) → InSpan t.p (IsTupleAt t.p fs t.target low w) (tuple_row fs entries) x → (m : Tree) → (IsZeroAt t.p x m → ⊥) → IsColumnAt t.p fs t.target low w m
-    in-columns x s m n = element-columns_at t.p (pos fs t g) fs g.multilinear g.high t.target low some entries over-low w to next x s m n
+    in-columns : (x : Poly) → InSpan t.p (IsTupleAt t.p given.forms t.target low w) (tuple_row given.forms entries) x → (m : Tree) → (IsZeroAt t.p x m → ⊥) → IsColumnAt t.p given.forms t.target low w m
+    in-columns x s m n = element-columns_at t.p (pos given t g) given.forms g.multilinear g.high t.target low some entries over-low w to next x s m n
 
-    have : HaveSpan t.p (IsTupleAt t.p fs t.target low w) (tuple_row fs entries) cols family
-    have = origins-have-span t.p (pos fs t g) (IsTupleAt t.p fs t.target low w) (tuple_row fs entries) (IsColumnAt t.p fs t.target low w) cols are in-columns
+    have : HaveSpan t.p (IsTupleAt t.p given.forms t.target low w) (tuple_row given.forms entries) cols family
+    have = origins-have-span t.p (pos given t g) (IsTupleAt t.p given.forms t.target low w) (tuple_row given.forms entries) (IsColumnAt t.p given.forms t.target low w) cols are in-columns
         instances other kept-origins.named family family-rows family-past kept-origins.spans
 
     spans-family : SameSpan t.p (kept r) family
     spans-family = block.offered_all.spans
 
     module _ (b c j : ℕ) (here : j < length cols) (is : col cols j ≡ node (mono_at t.parts b) (mono_at t.parts c)) where
-      column : IsColumnAt t.p fs t.target low w (node (mono_at t.parts b) (mono_at t.parts c))
-      column = subst (IsColumnAt t.p fs t.target low w) is
-          (column-at t.p (IsTupleAt t.p fs t.target low w) (tuple_row fs entries) (IsColumnAt t.p fs t.target low w) cols are family have in-columns j here)
+      column : IsColumnAt t.p given.forms t.target low w (node (mono_at t.parts b) (mono_at t.parts c))
+      column = subst (IsColumnAt t.p given.forms t.target low w) is
+          (column-at t.p (IsTupleAt t.p given.forms t.target low w) (tuple_row given.forms entries) (IsColumnAt t.p given.forms t.target low w) cols are family have in-columns j here)
 
-      factors : (l r : Tree) → node (mono_at t.parts b) (mono_at t.parts c) ≡ node l r → IsBasisTo t.p fs t.target low l → IsBasisTo t.p fs t.target low r →
-          IsBasisTo t.p fs t.target low (mono_at t.parts b) × IsBasisTo t.p fs t.target low (mono_at t.parts c)
+      factors : (l r : Tree) → node (mono_at t.parts b) (mono_at t.parts c) ≡ node l r → IsBasisTo t.p given.forms t.target low l → IsBasisTo t.p given.forms t.target low r →
+          IsBasisTo t.p given.forms t.target low (mono_at t.parts b) × IsBasisTo t.p given.forms t.target low (mono_at t.parts c)
       factors l r e hl hr =
           let x : mono_at t.parts b ≡ l = cc in
           let y : mono_at t.parts c ≡ r = cc in
-          (subst (IsBasisTo t.p fs t.target low) (sym x) hl, subst (IsBasisTo t.p fs t.target low) (sym y) hr)
+          (subst (IsBasisTo t.p given.forms t.target low) (sym x) hl, subst (IsBasisTo t.p given.forms t.target low) (sym y) hr)
 
-      both : IsBasisTo t.p fs t.target low (mono_at t.parts b) × IsBasisTo t.p fs t.target low (mono_at t.parts c)
+      both : IsBasisTo t.p given.forms t.target low (mono_at t.parts b) × IsBasisTo t.p given.forms t.target low (mono_at t.parts c)
       both = factors column.left column.right column.product column.left_basis column.right_basis
 
       -- a product whose column is no pivot is its entry
@@ -271,27 +271,27 @@ module _ (fs : List Form) (t : Table) (g : IsRightOver fs t) (w : List ℕ) (cov
       unfolding product_less
       product-free n =
           let m : Tree = node (mono_at t.parts b) (mono_at t.parts c) in
-          let f : IsFreeAt t.p fs t.target low entries w (col cols j) =
-          number-free t.p (pos fs t g) fs g.multilinear g.high t.target low some entries over-low w to next cols are family have j here
+          let f : IsFreeAt t.p given.forms t.target low entries w (col cols j) =
+          number-free t.p (pos given t g) given.forms g.multilinear g.high t.target low some entries over-low w to next cols are family have j here
           (λ v. n (pivot_through t.p family (kept r) j spans-family.back v)) in
-          let e : IsEntryAt t.p fs t.target low entries w m (unit m) =
-          free-entry t.p (pos fs t g) fs g.multilinear g.high t.target low some entries over-low w to next cols are family have m (subst (IsFreeAt t.p fs t.target low entries w) is f) in
-          difference-zero t.p (pos fs t g)
-          (entry-alike t.p (pos fs t g) fs g.multilinear g.high t.target low some (basis_monos t.parts) entries right w to next (mono_at t.parts b) (mono_at t.parts c) (unit m) column both.0 both.1 e)
+          let e : IsEntryAt t.p given.forms t.target low entries w m (unit m) =
+          free-entry t.p (pos given t g) given.forms g.multilinear g.high t.target low some entries over-low w to next cols are family have m (subst (IsFreeAt t.p given.forms t.target low entries w) is f) in
+          difference-zero t.p (pos given t g)
+          (entry-alike t.p (pos given t g) given.forms g.multilinear g.high t.target low some (basis_monos t.parts) entries right w to next (mono_at t.parts b) (mono_at t.parts c) (unit m) column both.0 both.1 e)
 
       -- a recipe of a pivot
-      pub product-recipe : (items : Comb ℕ) → IsRecipe r j items → Alike t.p (product_less t (b, c)) (spread (origin_row fs t w) items)
+      pub product-recipe : (items : Comb ℕ) → IsRecipe r j items → Alike t.p (product_less t (b, c)) (spread (origin_row given.forms t w) items)
       unfolding product_less
       product-recipe items k =
           let v : ℕ → ℕ = combination family items in
           let reduced : Vectors.IsReducedRow t.p family j v = reduced_through t.p (kept r) family j v spans-family
           (subst (λ p. Vectors.IsReducedRow p (kept r) j v) block.offered_all.field k.gives) in
-          let e = entry-exists t.p (pos fs t g) cols j v in
+          let e = entry-exists t.p (pos given t g) cols j v in
           let numbers : Each (λ s. s.1 < length names) items = each_from_all (λ s. s.1 < length names) items (λ i d l. number_below r.offers (length names) (get_or items i d).1 block.offered_all.below (k.tags i d l)) in
           let places : Each (λ s. s.1 < length instances) items = each-from (λ s. s.1 < length names) _ items (λ s l. omega (arith, l, count)) numbers in
-          let x = origin-entry t.p (pos fs t g) fs g.multilinear g.high t.target low some (basis_monos t.parts) entries right w to next cols are instances other kept-origins.named
+          let x = origin-entry t.p (pos given t g) given.forms g.multilinear g.high t.target low some (basis_monos t.parts) entries right w to next cols are instances other kept-origins.named
           family family-rows family-past kept-origins.spans j here v reduced e.0 e.1 items places (λ i. refl)
           (mono_at t.parts b) (mono_at t.parts c) is column both.0 both.1 in
-          joined x (joined (turned (spread-reindex (λ i. get_or instances i other) (tuple_row fs entries) items))
-          (spread-each (λ i. i < length names) (λ i. tuple_row fs entries (get_or instances i other)) (origin_row fs t w) items
-          (λ i l. itself' _ _ (ap (tuple_row fs entries) (instance-is i l))) numbers))
+          joined x (joined (turned (spread-reindex (λ i. get_or instances i other) (tuple_row given.forms entries) items))
+          (spread-each (λ i. i < length names) (λ i. tuple_row given.forms entries (get_or instances i other)) (origin_row given.forms t w) items
+          (λ i l. itself' _ _ (ap (tuple_row given.forms entries) (instance-is i l))) numbers))

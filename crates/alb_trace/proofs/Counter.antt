@@ -5,20 +5,14 @@ use Rattle.std.proofs.Math.Nat.{mod-eq_of_lt}
 use Rattle.std.specs.declared.cmp.Ordering.TheVariants.{Less}
 use Rattle.gf_field.proofs.Mod.{same, ◌⊙◌}
 use Rattle.gf_sums.specs.Sums.{coefficient}
-use Rattle.gf_sums.proofs.Alike.{Alike, turned}
+use Rattle.gf_sums.proofs.Alike.{turned}
 use Rattle.alb_mono.specs.Listing.{Each}
 use Rattle.alb_mono.specs.Tree.{Tree, are_below, type_of, cmp_types, same_tree}
 use Rattle.alb_mono.proofs.ListingLemmas.{each-at}
 use Rattle.alb_mono.proofs.Leaves.{length-type_of}
 use Rattle.alb_poly.specs.Poly.{Poly, IsDescending, AreResidues, greatest_degree}
-use Rattle.alb_poly.specs.Instance.{Form, IsMultilinearForm}
+use Rattle.alb_poly.specs.Instance.{Form}
 use Rattle.alb_poly.specs.Consequence.{IsConsequence, AreMultilinear}
-use Rattle.alb_poly.specs.Instance.{IsMultilinearForm}
-use Rattle.alb_poly.specs.Rules.{forms}
-use Rattle.alb_poly.specs.declared.rules.Rules.{Rules}
-use Rattle.alb_poly.proofs.Multilinear.{each-from}
-use Rattle.alb_linear.specs.Identity.{IsLinearized}
-use Rattle.alb_trace.specs.Given.{AreFormsOver}
 use Rattle.alb_poly.proofs.Consequence.{poly_alike, tree_tells}
 use Rattle.alb_poly.proofs.NormalLemmas.{descending-canonical}
 use Rattle.alb_poly.proofs.Terms.{canonical-coefficients}
@@ -29,10 +23,10 @@ use Rattle.alb_table.specs.RightTable.{IsRightTable, mono_entry}
 use Rattle.alb_table.specs.Table.{Table, IsTable}
 use Rattle.alb_table.proofs.Coefficients.{each-coefficient}
 use Rattle.alb_table.proofs.Right.{within-type}
-use Rattle.alb_table.proofs.Values.{poly-value-basis, value-consequence}
+use Rattle.alb_table.proofs.Values.{poly-value-basis}
 use Rattle.alb_query.specs.Answer.{NotZero, misfit, IsAnswer, IsNormalForm, AnswersUnless, AnswersFitting}
 use Rattle.alb_query.proofs.AnswerLemmas.{all-within}
-use Rattle.alb_trace.specs.FirstType.{IsFirstAmong, HasFirst}
+use Rattle.alb_trace.specs.FirstType.{IsFirstAmong}
 use Rattle.alb_trace.specs.Proof.{IsCounterTable}
 use Rattle.alb_trace.proofs.Shown.{pos, table, value-normal_form, counter-table}
 
@@ -100,12 +94,6 @@ module _ (fs : List Form) (t : Table) (multi : AreMultilinear fs) (high : AreHig
         },
       )
 
-  -- a normal form that is not zero has a first type
-  pub no-first : HasFirst (length t.target) f None → ⊥
-  no-first e =
-      is.none (value-consequence t.p (pos fs t multi high tab right) fs multi (IsWithin t.target t.degree) (mono_entry t.parts) (table fs t multi high tab right) g is.within
-      (subst (λ x. Alike t.p (poly_value (mono_entry t.parts) g) x) e (value-normal_form fs t multi high tab right g f is.within is.normal)))
-
   -- THE TABLE UP TO IT refutes the polynomial
   pub first-counter : (top : List ℕ) → IsFirstAmong (length t.target) f top → IsCounterTable fs t g f (sub_table t top)
   first-counter top h = let r = first-type top h in counter-table fs t multi high tab right g f top is.within is.normal r.0 r.1
@@ -113,7 +101,3 @@ module _ (fs : List Form) (t : Table) (multi : AreMultilinear fs) (high : AreHig
 -- the first type has as many counts as the target
 pub first-long-of : (target : List ℕ) (n : ℕ) (f : Poly) (top : List ℕ) → n ≡ length target → IsFirstAmong n f top → length top ≡ length target
 first-long-of target n f top e h = ap length (sym h.type) ∙ length-type_of n h.term.1 ∙ e
-
--- rules stand for multilinear forms
-pub rules-multilinear : (rules : Rules) (t : Table) → AreFormsOver rules t → AreMultilinear (forms rules)
-rules-multilinear rules t r = each-from (IsLinearized t.p) IsMultilinearForm (forms rules) (λ f h. h.multilinear) r.linearized

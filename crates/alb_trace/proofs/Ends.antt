@@ -1,5 +1,5 @@
 -- The lines of an answer, out of those of a trace.
-use Rattle.std.proofs.Common.{◌≡◌, ℕ, suc, ◌+◌, ◌<◌, ◌≤◌, ◌^◌, List, [], ◌∷◌, ◌++◌, length, map, sym, ap, ◌∙◌, subst, arith, Some, None}
+use Rattle.std.proofs.Common.{◌≡◌, ℕ, suc, ◌+◌, ◌<◌, ◌≤◌, ◌^◌, List, [], ◌∷◌, ◌++◌, length, map, sym, ap, ◌∙◌, subst, arith}
 use Rattle.std.specs.Prelude.{All}
 use Rattle.std.proofs.lemmas.List.{map-append, length-map, length-append}
 use Rattle.std.proofs.lemmas.List.Elements.{All-append, All-cons}
@@ -7,9 +7,8 @@ use Rattle.gf_sums.proofs.Alike.{Alike}
 use Rattle.alb_mono.specs.Listing.{Each}
 use Rattle.alb_poly.specs.Poly.{Poly}
 use Rattle.alb_poly.specs.Instance.{Form}
-use Rattle.alb_poly.specs.Rules.{form, forms}
+use Rattle.alb_poly.specs.Rules.{forms}
 use Rattle.alb_poly.specs.declared.rules.Rules.{Rules}
-use Rattle.alb_trace.specs.Given.{AreFormsOver}
 use Rattle.alb_poly.proofs.Consequence.{alike_poly, poly_alike}
 use Rattle.alb_linear.proofs.LinearLemmas.{each_from_all}
 use Rattle.alb_deriv.specs.Derivation as value
@@ -19,15 +18,17 @@ use Rattle.alb_deriv.specs.declared.line.Line.{Line}
 use Rattle.alb_deriv.specs.declared.line.Line.TheVariants.{Instance, Times, Sum}
 use Rattle.alb_deriv.proofs.Appended.{one-line}
 use Rattle.alb_deriv.proofs.Limited.{HasResidues, fine-limited}
+use Rattle.alb_table.specs.RightFor.{rules_view, AreRules}
 use Rattle.alb_table.specs.Table.{Table, IsTable}
 use Rattle.alb_trace.specs.Answer.{AreLinesFor}
 use Rattle.alb_trace.specs.Trace.{most_items, Derives}
+use Rattle.alb_trace.specs.declared.trace.Citation.TheVariants as citations
 use Rattle.alb_trace.specs.declared.trace.Trace.{Trace}
 use Rattle.alb_trace.proofs.TraceLemmas.{next-sum}
 
 -- rules stand for forms that can be numbered
-pub rules-few : (rules : Rules) (t : Table) → AreFormsOver rules t → length (forms rules) < 10 ^ 18
-rules-few rules t r = omega (arith, r.few, length-map rules.linears.items form)
+pub forms-few : (rules : Rules) → AreRules (rules_view rules) → length (forms rules) < 10 ^ 18
+forms-few rules r = omega (arith, r.few)
 
 -- lines that can be printed have residues, and factors of degree at most 64
 line-residues : (p n : ℕ) (l : Line) → IsLine p n l → HasResidues p (line l)
@@ -41,7 +42,7 @@ module _ (fs : List Form) (t : Table) where
   all-residues (l ∷ ls) h = (line-residues t.p (length t.target) l (h 0 l (omega arith)), all-residues ls (λ k d m. h (suc k) d (omega arith)))
 
   -- no lines for zero
-  pub ends-none : (old s : Trace) (f : Poly) → Derives fs t old s None f → AreLinesFor fs t f []
+  pub ends-none : (old s : Trace) (f : Poly) → Derives fs t old s citations.Zero f → AreLinesFor fs t f []
   ends-none old s f d =
       let a : Alike t.p [] f = alike_poly d.adds.sum.same in
       record {
@@ -59,11 +60,11 @@ module _ (fs : List Form) (t : Table) where
       }
 
   -- all lines, where the last one has the polynomial
-  pub ends-last : length fs < 10 ^ 18 → (old s : Trace) (k : ℕ) (f : Poly) → length s.lines.items < 10 ^ 18 → Derives fs t old s (Some k) f → k ≡ length s.lines.items → AreLinesFor fs t f s.lines.items
+  pub ends-last : length fs < 10 ^ 18 → (old s : Trace) (k : ℕ) (f : Poly) → length s.lines.items < 10 ^ 18 → Derives fs t old s (citations.Line k) f → k ≡ length s.lines.items → AreLinesFor fs t f s.lines.items
   ends-last forms old s k f few d e = last-line forms d.trace.table s.lines.items k f few d.adds.fine d.trace.printable (one-line t.p fs d.adds.sum) (e ∙ sym (length-map s.lines.items line))
 
   -- and a line for it, where another one has it
-  pub ends-sum : length fs < 10 ^ 18 → (old s : Trace) (k : ℕ) (f : Poly) (l : Line) (ls : List Line) → length ls < 10 ^ 18 → Derives fs t old s (Some k) f → line l ≡ value.Sum ((1, k) ∷ []) → IsLine t.p (length t.target) l →
+  pub ends-sum : length fs < 10 ^ 18 → (old s : Trace) (k : ℕ) (f : Poly) (l : Line) (ls : List Line) → length ls < 10 ^ 18 → Derives fs t old s (citations.Line k) f → line l ≡ value.Sum ((1, k) ∷ []) → IsLine t.p (length t.target) l →
       ls ≡ s.lines.items ++ l ∷ [] → AreLinesFor fs t f ls
   ends-sum forms old s k f l ls few d e i q =
       let one : 1 ≤ 64 = omega arith in

@@ -1,4 +1,3 @@
-pub mod Premises
 pub mod Splits
 pub mod Recipe
 pub mod OriginEntry

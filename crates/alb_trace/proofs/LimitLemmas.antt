@@ -13,18 +13,17 @@ use Rattle.alb_mono.specs.Tree.{Tree, leaf, node, cmp_trees}
 use Rattle.alb_mono.proofs.ListingLemmas.{each-weaker}
 use Rattle.alb_mono.proofs.Order.{cmp_trees_total}
 use Rattle.alb_poly.specs.Poly.{list_eq}
-use Rattle.alb_poly.specs.Instance.{Form}
 use Rattle.alb_table.specs.Block.{IsPivotAt, IsColumnAt}
 use Rattle.alb_table.specs.Columns.{AreColumns, col}
 use Rattle.alb_table.specs.Entry.{products}
 use Rattle.alb_table.specs.PartView.{PartView, entries_at, origins_at, mono_at}
+use Rattle.alb_table.specs.RightFor.{RulesView, IsRightFor}
 use Rattle.alb_table.specs.RightTable.{instance_at}
 use Rattle.alb_table.specs.Table.{Table, CoversType, IsPartOf}
 use Rattle.alb_table.proofs.Right.{element-columns_at}
 use Rattle.alb_table.proofs.RangeLemmas.{ats, entries_full}
 use Rattle.alb_table.proofs.TypesTo.{types_to-all}
 use Rattle.alb_block.specs.Instances.{columns_of}
-use Rattle.alb_trace.specs.Given.{IsRightOver}
 use Rattle.alb_trace.proofs.BlockEntries.{next, some, to, entries, cols, are, kept-origins, over-low}
 use Rattle.alb_trace.proofs.ValueRows.{pos}
 
@@ -37,8 +36,8 @@ entries-few n (q ∷ qs) w a = elim (cases_Bool (list_eq q.at w)) [
   | inr e ↦ rw e (entries-few n qs w a.1)
 ]
 
-pub products-few : (fs : List Form) (t : Table) (w : List ℕ) → IsRightOver fs t → CoversType t w → length w ≡ length t.target → 0 < sum w → length (products t.parts w) ≤ 4096
-products-few fs t w g cov long some =
+pub products-few : (given : RulesView) (t : Table) (w : List ℕ) → IsRightFor given t → CoversType t w → length w ≡ length t.target → 0 < sum w → length (products t.parts w) ≤ 4096
+products-few given t w g cov long some =
     let i : IsIn w (ats t.parts) = subst (IsIn w) (sym g.table.types) (types_to-all t.target t.degree w (record { long = long; within = cov.within; some = some; degree_le = cov.degree_le })) in
     let e : length (entries_at t.parts w) ≡ length (products t.parts w) =
     entries_full t.parts (λ u. length (products t.parts u)) w i (each-weaker (IsPartOf t.p t.parts t.parts) (λ (q : PartView). length q.entries ≡ length (products t.parts q.at)) t.parts (λ q z. z.full) g.table.each) in
@@ -88,13 +87,13 @@ module _ (Column : Tree → Type 0) (cols : List Tree) (are : AreColumns Column 
 
 -- ---- kept instances
 
-pub origins-few : (fs : List Form) (t : Table) (g : IsRightOver fs t) (w : List ℕ) (cov : CoversType t w) (long : length w ≡ length t.target) (big : 2 ≤ sum w) →
+pub origins-few : (given : RulesView) (t : Table) (g : IsRightFor given t) (w : List ℕ) (cov : CoversType t w) (long : length w ≡ length t.target) (big : 2 ≤ sum w) →
     length (origins_at t.parts w) ≤ length (columns_of t.parts w)
-origins-few fs t g w cov long big =
-    let o = kept-origins fs t g w cov long big in
-    let b : length o.pivots ≤ length (cols fs t g w cov long big) =
-    columns-few (IsColumnAt t.p fs t.target (sum w - 1) w) (cols fs t g w cov long big) (are fs t g w cov long big) o.pivots o.are_pivots.ascends
-    (each-weaker (IsPivotAt t.p fs t.target (sum w - 1) (entries fs t g w cov long big) w) (IsColumnAt t.p fs t.target (sum w - 1) w) o.pivots (λ m v.
-    element-columns_at t.p (pos fs t g) fs g.multilinear g.high t.target (sum w - 1) (some fs t g w cov long big) (entries fs t g w cov long big) (over-low fs t g w cov long big)
-    w (to fs t g w cov long big) (next fs t g w cov long big) v.element v.in_span m v.nonzero) o.are_pivots.pivots) in
+origins-few given t g w cov long big =
+    let o = kept-origins given t g w cov long big in
+    let b : length o.pivots ≤ length (cols given t g w cov long big) =
+    columns-few (IsColumnAt t.p given.forms t.target (sum w - 1) w) (cols given t g w cov long big) (are given t g w cov long big) o.pivots o.are_pivots.ascends
+    (each-weaker (IsPivotAt t.p given.forms t.target (sum w - 1) (entries given t g w cov long big) w) (IsColumnAt t.p given.forms t.target (sum w - 1) w) o.pivots (λ m v.
+    element-columns_at t.p (pos given t g) given.forms g.multilinear g.high t.target (sum w - 1) (some given t g w cov long big) (entries given t g w cov long big) (over-low given t g w cov long big)
+    w (to given t g w cov long big) (next given t g w cov long big) v.element v.in_span m v.nonzero) o.are_pivots.pivots) in
     omega (arith, o.count, length-map (origins_at t.parts w) (instance_at t.parts), length-map (columns_of t.parts w) (λ (q : ℕ × ℕ). node (mono_at t.parts q.0) (mono_at t.parts q.1)))

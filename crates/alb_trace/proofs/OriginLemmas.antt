@@ -12,16 +12,19 @@ use Rattle.alb_deriv.specs.Derivation.{are_within}
 use Rattle.alb_deriv.proofs.Appended.{Appends}
 use Rattle.alb_deriv.proofs.LineLemmas.{low-together, below-26}
 use Rattle.alb_table.proofs.FirstLemmas.{few_generators}
+use Rattle.alb_table.proofs.RightForLemmas.{right-linearized}
 use Rattle.alb_table.proofs.TableLemmas.{each-unmap}
 use Rattle.alb_table.specs.Right.{IsWithin}
+use Rattle.alb_table.specs.RightFor.{rules_view, AreRules, IsRightFor}
 use Rattle.alb_table.specs.RightTable.{instance_at}
 use Rattle.alb_table.specs.Block.{IsTupleAt}
 use Rattle.std.proofs.lemmas.List.{length-map, get_or-map, length-reverse}
 use Rattle.alb_mono.specs.Listing.{Each}
 use Rattle.alb_poly.specs.Instance.{instance}
 use Rattle.alb_poly.specs.Consequence.{form_at}
-use Rattle.alb_poly.specs.Rules.{form}
+use Rattle.alb_poly.specs.Rules.{form, forms}
 use Rattle.alb_poly.specs.declared.rules.Linear.{Linear}
+use Rattle.alb_poly.specs.declared.rules.Rules.{Rules}
 use Rattle.alb_linear.specs.Identity.{IsLinearized}
 use Rattle.alb_rows.specs.Row.{Cells, ColumnsBelow}
 use Rattle.alb_table.specs.PartView.{elems, origin_view, origins_at, mono_at}
@@ -33,7 +36,7 @@ use Rattle.alb_block.specs.Asked.{setting_of}
 use Rattle.alb_block.specs.Instances.{columns_of}
 use Rattle.alb_block.specs.Offers.{IsRowOf}
 use Rattle.alb_block.proofs.OfferLemmas.{form_item, item-form, row-of}
-use Rattle.alb_trace.specs.Given.{IsRightOver, IsProductType}
+use Rattle.alb_trace.specs.Given.{IsProductType}
 use Rattle.alb_trace.specs.Origins.{origin_at, origin_instance}
 use Rattle.alb_trace.specs.Trace.{most_items, lines_of, IsTrace}
 use Rattle.alb_trace.specs.declared.trace.Trace.{Trace}
@@ -42,16 +45,16 @@ use Rattle.alb_trace.proofs.ValueRows.{pos}
 use Rattle.alb_trace.proofs.BlockEntries.{origin-named, origin-below, origin-long}
 use Rattle.alb_trace.proofs.LimitLemmas.{products-few, origins-few}
 
-module _ (ls : List Linear) (t : Table) (g : IsRightOver (map form ls) t) (w : List ℕ) (ty : IsProductType t w) where
+module _ (rules : Rules) (t : Table) (g : IsRightFor (rules_view rules) t) (w : List ℕ) (ty : IsProductType t w) where
   -- a type has at most 4096 products
   pub few-products : length (products t.parts w) ≤ 4096
-  few-products = products-few (map form ls) t w g ty.covered ty.long (omega (arith, ty.big))
+  few-products = products-few (rules_view rules) t w g ty.covered ty.long (omega (arith, ty.big))
 
   pub few-columns : length (columns_of t.parts w) ≤ 4096
   few-columns = omega (arith, few-products, length-reverse (products t.parts w))
 
   pub few-origins : length (origins_at t.parts w) ≤ 4096
-  few-origins = omega (arith, few-columns, origins-few (map form ls) t g w ty.covered ty.long ty.big)
+  few-origins = omega (arith, few-columns, origins-few (rules_view rules) t g w ty.covered ty.long ty.big)
 
   module _ (os : List Origin) (views : map origin_view os ≡ origins_at t.parts w) where
     pub count : length os ≡ length (origins_at t.parts w)
@@ -64,35 +67,35 @@ module _ (ls : List Linear) (t : Table) (g : IsRightOver (map form ls) t) (w : L
       pub view : (o.identity, o.args.items) ≡ origin_at (origins_at t.parts w) k
       view = ap origin_view is ∙ sym (get_or-map origin_view os k o (0, []) here) ∙ ap (λ xs. get_or xs k (0, [])) views
 
-      pub identity-below : o.identity < length ls
+      pub identity-below : o.identity < length rules.linears.items
       identity-below =
-          let h : (origin_at (origins_at t.parts w) k).0 < length (map form ls) = (origin-named (map form ls) t g w ty.covered ty.long ty.big k among).form in
-          omega (arith, h, length-map ls form, ap (λ s. s.0) view)
+          let h : (origin_at (origins_at t.parts w) k).0 < length (forms rules) = (origin-named (rules_view rules) t g w ty.covered ty.long ty.big k among).form in
+          omega (arith, h, length-map rules.linears.items form, ap (λ s. s.0) view)
 
       pub args-below : All (λ b. b < length (elems t.parts)) o.args.items
       args-below = all_from_each (λ b. b < length (elems t.parts)) o.args.items
-          (subst (Each (λ b. b < length (elems t.parts))) (sym (ap (λ s. s.1) view)) (origin-below (map form ls) t g w ty.covered ty.long ty.big k among))
+          (subst (Each (λ b. b < length (elems t.parts))) (sym (ap (λ s. s.1) view)) (origin-below (rules_view rules) t g w ty.covered ty.long ty.big k among))
 
-      module _ (f : Linear) (at : f ≡ get_or ls o.identity f) where
-        pub form-is : form f ≡ form_at (map form ls) (origin_at (origins_at t.parts w) k).0
-        form-is = form_item ls o.identity f identity-below at ∙ ap (form_at (map form ls)) (ap (λ s. s.0) view)
+      module _ (f : Linear) (at : f ≡ get_or rules.linears.items o.identity f) where
+        pub form-is : form f ≡ form_at (forms rules) (origin_at (origins_at t.parts w) k).0
+        form-is = form_item rules.linears.items o.identity f identity-below at ∙ ap (form_at (forms rules)) (ap (λ s. s.0) view)
 
-        pub linearized : Each (IsLinearized t.p) (map form ls) → IsLinearized t.p (form f)
-        linearized h = item-form (IsLinearized t.p) ls o.identity f h identity-below at
+        pub linearized : AreRules (rules_view rules) → IsLinearized t.p (form f)
+        linearized h = item-form (IsLinearized t.p) rules.linears.items o.identity f (right-linearized (rules_view rules) t h g) identity-below at
 
         pub args-long : length o.args.items ≡ f.degree
-        args-long = ap (λ s. length s.1) view ∙ origin-long (map form ls) t g w ty.covered ty.long ty.big k among ∙ sym (ap (λ x. x.degree) form-is)
+        args-long = ap (λ s. length s.1) view ∙ origin-long (rules_view rules) t g w ty.covered ty.long ty.big k among ∙ sym (ap (λ x. x.degree) form-is)
 
         pub row-is : (columns : List (ℕ × ℕ)) (row : Cells) → columns ≡ columns_of t.parts w → HasEntries t.p columns row (instance_row t.parts (form f) o.args.items) →
-            ColumnsBelow (length columns) row → IsRowOf (setting_of (map form ls) t w) (origin_at (origins_at t.parts w) k) row
-        row-is columns row e h b = row-of (setting_of (map form ls) t w) (origin_at (origins_at t.parts w) k) columns row (form f) e form-is
+            ColumnsBelow (length columns) row → IsRowOf (setting_of (forms rules) t w) (origin_at (origins_at t.parts w) k) row
+        row-is columns row e h b = row-of (setting_of (forms rules) t w) (origin_at (origins_at t.parts w) k) columns row (form f) e form-is
             (subst (λ xs. HasEntries t.p columns row (instance_row t.parts (form f) xs)) (ap (λ s. s.1) view) h) b
 
         -- its monomials
         module _ (ms : List Mono) (are : map tree ms ≡ map (mono_at t.parts) o.args.items) where
-          pub named : IsTupleAt t.p (map form ls) t.target (sum w - 1) w (o.identity, map tree ms)
-          named = subst (λ xs. IsTupleAt t.p (map form ls) t.target (sum w - 1) w (o.identity, xs)) (sym are)
-              (subst (λ s. IsTupleAt t.p (map form ls) t.target (sum w - 1) w (instance_at t.parts s)) (sym view) (origin-named (map form ls) t g w ty.covered ty.long ty.big k among))
+          pub named : IsTupleAt t.p (forms rules) t.target (sum w - 1) w (o.identity, map tree ms)
+          named = subst (λ xs. IsTupleAt t.p (forms rules) t.target (sum w - 1) w (o.identity, xs)) (sym are)
+              (subst (λ s. IsTupleAt t.p (forms rules) t.target (sum w - 1) w (instance_at t.parts s)) (sym view) (origin-named (rules_view rules) t g w ty.covered ty.long ty.big k among))
 
           monos-within : Each (λ m. IsWithin t.target (sum w - 1) (tree m)) ms
           monos-within = each-unmap (IsWithin t.target (sum w - 1)) tree ms (each-from _ _ (map tree ms) (λ m b. b.within) named.basis)
@@ -122,16 +125,16 @@ module _ (ls : List Linear) (t : Table) (g : IsRightOver (map form ls) t) (w : L
           known-26 = below-26 (length t.target) ms (omega (arith, few_generators t.target g.table.goal)) monos-known
 
           -- the line of the instance may be the next one
-          pub next-instance : (s : Trace) → IsTrace (map form ls) t s →
-              Appends t.p most_items t.target (map form ls) (lines_of s) (value.Instance (o.identity + 1) (map tree ms)) (origin_instance (map form ls) t w k)
-          next-instance s h = subst (λ x. Appends t.p most_items t.target (map form ls) (lines_of s) (value.Instance (o.identity + 1) (map tree ms)) x) instance-is
-              (append-tuple t.p (pos (map form ls) t g) most_items t.target (map form ls) (sum w - 1) w (lines_of s) (o.identity, map tree ms) h.fine
+          pub next-instance : (s : Trace) → IsTrace (forms rules) t s →
+              Appends t.p most_items t.target (forms rules) (lines_of s) (value.Instance (o.identity + 1) (map tree ms)) (origin_instance (forms rules) t w k)
+          next-instance s h = subst (λ x. Appends t.p most_items t.target (forms rules) (lines_of s) (value.Instance (o.identity + 1) (map tree ms)) x) instance-is
+              (append-tuple t.p (pos (rules_view rules) t g) most_items t.target (forms rules) (sum w - 1) w (lines_of s) (o.identity, map tree ms) h.fine
               (record { counts = ty.long; le = ty.covered.within; degree = omega (arith, ty.big) }) named)
             where
-              instance-is : instance (form_at (map form ls) o.identity) (map tree ms) ≡ origin_instance (map form ls) t w k
-              instance-is = ap (instance (form_at (map form ls) o.identity)) are ∙ ap (λ (s : ℕ × List ℕ). instance (form_at (map form ls) s.0) (map (mono_at t.parts) s.1)) view
+              instance-is : instance (form_at (forms rules) o.identity) (map tree ms) ≡ origin_instance (forms rules) t w k
+              instance-is = ap (instance (form_at (forms rules) o.identity)) are ∙ ap (λ (s : ℕ × List ℕ). instance (form_at (forms rules) s.0) (map (mono_at t.parts) s.1)) view
 
           -- its polynomial
-          pub value-is : (p : ℕ) → normal p (instance (form f) (map tree ms)) ≡ normal p (origin_instance (map form ls) t w k)
+          pub value-is : (p : ℕ) → normal p (instance (form f) (map tree ms)) ≡ normal p (origin_instance (forms rules) t w k)
           value-is p = ap (normal p) (ap (λ x. instance x (map tree ms)) form-is
-              ∙ ap (instance (form_at (map form ls) (origin_at (origins_at t.parts w) k).0)) (are ∙ ap (λ (s : ℕ × List ℕ). map (mono_at t.parts) s.1) view))
+              ∙ ap (instance (form_at (forms rules) (origin_at (origins_at t.parts w) k).0)) (are ∙ ap (λ (s : ℕ × List ℕ). map (mono_at t.parts) s.1) view))

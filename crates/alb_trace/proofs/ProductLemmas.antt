@@ -30,6 +30,7 @@ use Rattle.alb_table.specs.Leading.{difference}
 use Rattle.alb_table.specs.PartView.{elems, type_at, mono_at, origins_at}
 use Rattle.alb_table.specs.Block.{image, spread}
 use Rattle.alb_table.specs.Right.{mono_value, IsOfType, IsTypeTo, IsWithin}
+use Rattle.alb_table.specs.RightFor.{RulesView, IsRightFor}
 use Rattle.alb_table.specs.RightTable.{mono_entry, instance_at}
 use Rattle.alb_table.specs.Table.{Table}
 use Rattle.alb_table.proofs.Congruent.{minus_one, minus_twice, difference-zero}
@@ -41,7 +42,7 @@ use Rattle.alb_table.proofs.TableLemmas.{type_shape}
 use Rattle.alb_table.proofs.Types.{type-listed, type-node}
 use Rattle.alb_table.proofs.Within.{degree-same}
 use Rattle.alb_trace.specs.Adds.{IsLonger}
-use Rattle.alb_trace.specs.Given.{IsRightOver, IsProductType, IsPartOf, IsValueRow}
+use Rattle.alb_trace.specs.Given.{IsProductType, IsPartOf, IsValueRow}
 use Rattle.alb_trace.specs.Origins.{origin_at, product_type, origin_row, origin_instance}
 use Rattle.alb_trace.specs.Recipes.{IsProduct}
 use Rattle.alb_trace.specs.Trace.{lines_of, product_less, mono_less, image_less, entries_less, IsTrace, Pushes}
@@ -139,24 +140,24 @@ module _ (fs : List Form) (t : Table) where
   pub pushes-nothing : (s : Trace) (before : List (ℕ × ℕ)) → IsTrace fs t s → Pushes fs t s s before before []
   pushes-nothing s before h = pushes-itself fs t s before [] h (itself [])
 
-module _ (fs : List Form) (t : Table) (g : IsRightOver fs t) where
+module _ (given : RulesView) (t : Table) (g : IsRightFor given t) where
   -- ---- the products of the parts of two values
 
-  part-degree : (m : Tree) (b : ℕ) → b < length (elems t.parts) → IsPartOf fs t m (mono_at t.parts b) → sum (type_at t.parts b) ≡ degree m
-  part-degree m b l k = sym (of_type-degree (type_at t.parts b) (mono_at t.parts b) (number-type fs t g.table g.right.right b l)) ∙ degree-same (mono_at t.parts b) m k.type
+  part-degree : (m : Tree) (b : ℕ) → b < length (elems t.parts) → IsPartOf given.forms t m (mono_at t.parts b) → sum (type_at t.parts b) ≡ degree m
+  part-degree m b l k = sym (of_type-degree (type_at t.parts b) (mono_at t.parts b) (number-type given.forms t g.table g.right.right b l)) ∙ degree-same (mono_at t.parts b) m k.type
 
   -- the degree of a column of a value
-  pub cell-degree : (m : Tree) (cells : Cells) (v : IsValueRow fs t m cells) (k : ℕ) (d : ℕ × ℕ) → k < length cells → sum (type_at t.parts (get_or cells k d).0) ≡ degree m
+  pub cell-degree : (m : Tree) (cells : Cells) (v : IsValueRow given.forms t m cells) (k : ℕ) (d : ℕ × ℕ) → k < length cells → sum (type_at t.parts (get_or cells k d).0) ≡ degree m
   cell-degree m cells v k d l = part-degree m (get_or cells k d).0 (v.vector.below k d l) (v.parts k d l)
 
   type-of-number : (b : ℕ) → b < length (elems t.parts) → type_of (length t.target) (mono_at t.parts b) ≡ type_at t.parts b
   type-of-number b l =
       let n : length (type_at t.parts b) ≡ length t.target = (type_shape t b g.table l).long in
-      ap (λ k. type_of k (mono_at t.parts b)) (sym n) ∙ (number-type fs t g.table g.right.right b l).counts
+      ap (λ k. type_of k (mono_at t.parts b)) (sym n) ∙ (number-type given.forms t g.table g.right.right b l).counts
 
   -- the product of two parts has an entry
   parts-product : (l r : Tree) → IsWithin t.target t.degree (node l r) → (b c : ℕ) → b < length (elems t.parts) → c < length (elems t.parts) →
-      IsPartOf fs t l (mono_at t.parts b) → IsPartOf fs t r (mono_at t.parts c) → IsProduct t (b, c)
+      IsPartOf given.forms t l (mono_at t.parts b) → IsPartOf given.forms t r (mono_at t.parts c) → IsProduct t (b, c)
   parts-product l r w b c hb hc kb kc =
       let n : ℕ = length t.target in
       let e : type_of n (node l r) ≡ product_type t (b, c) =
@@ -172,13 +173,13 @@ module _ (fs : List Form) (t : Table) (g : IsRightOver fs t) where
         type = record { covered = record { within = ty.le; degree_le = ty.degree }; long = ty.counts; big = omega (arith, s, x.some, y.some) };
       }
 
-  pub row-products : (l r : Tree) → IsWithin t.target t.degree (node l r) → (left right : Cells) → IsValueRow fs t l left → IsValueRow fs t r right → (k : ℕ) (d : ℕ × ℕ) → k < length left →
+  pub row-products : (l r : Tree) → IsWithin t.target t.degree (node l r) → (left right : Cells) → IsValueRow given.forms t l left → IsValueRow given.forms t r right → (k : ℕ) (d : ℕ × ℕ) → k < length left →
       All (λ cell. IsProduct t ((get_or left k d).0, cell.0)) right
   row-products l r w left right vl vr k d h = λ i e m.
       parts-product l r w (get_or left k d).0 (get_or right i e).0 (vl.vector.below k d h) (vr.vector.below i e m) (vl.parts k d h) (vr.parts i e m)
 
   -- all these products less their entries
-  pub entries-alike : (l r : Tree) (left right : Cells) → IsValueRow fs t l left → IsValueRow fs t r right →
+  pub entries-alike : (l r : Tree) (left right : Cells) → IsValueRow given.forms t l left → IsValueRow given.forms t r right →
       Alike t.p (spread (λ b. spread (λ c. product_less t (b, c)) (comb right)) (comb left)) (entries_less t (node l r))
   unfolding product_less entries_less
   entries-alike l r left right vl vr =
@@ -186,7 +187,7 @@ module _ (fs : List Form) (t : Table) (g : IsRightOver fs t) where
       let h : Poly = mono_value (mono_entry t.parts) r in
       let prod : Tree → Tree → Poly = λ b c. difference t.p (unit (node b c)) (mono_entry t.parts b c) in
       joined (equal _ _ (λ w. weights w))
-      (joined (multiply-alike prod (alike_poly vl.same) (alike_poly vr.same)) (turned (entries-split t.p (pos fs t g) (mono_entry t.parts) f h)))
+      (joined (multiply-alike prod (alike_poly vl.same) (alike_poly vr.same)) (turned (entries-split t.p (pos given t g) (mono_entry t.parts) f h)))
     where
       weights : (w : Tree → ℕ) → weigh w (spread (λ b. spread (λ c. difference t.p (unit (node (mono_at t.parts b) (mono_at t.parts c))) (mono_entry t.parts (mono_at t.parts b) (mono_at t.parts c))) (comb right)) (comb left))
           ≡ weigh w (multiply (λ b c. difference t.p (unit (node b c)) (mono_entry t.parts b c)) (reindex (mono_at t.parts) (comb left)) (reindex (mono_at t.parts) (comb right)))
@@ -203,41 +204,41 @@ module _ (fs : List Form) (t : Table) (g : IsRightOver fs t) where
   pub mono-alike : (m : Tree) → Alike t.p (scale 1 (image_less t m) ++ entries_less t m) (mono_less t m)
   unfolding mono_less image_less entries_less
   mono-alike m = joined (append-alike (scale-one (image_less t m)) (itself (entries_less t m)))
-      (turned (difference-joined t.p (pos fs t g) (unit m) (image node (mono_entry t.parts) (λ k. unit (leaf k)) m) (mono_value (mono_entry t.parts) m)))
+      (turned (difference-joined t.p (pos given t g) (unit m) (image node (mono_entry t.parts) (λ k. unit (leaf k)) m) (mono_value (mono_entry t.parts) m)))
 
   -- a generator is its value
   pub leaf-alike : (k : ℕ) → Alike t.p (mono_less t (leaf k)) []
   unfolding mono_less
-  leaf-alike k = difference-zero t.p (pos fs t g) (itself (unit (leaf k)))
+  leaf-alike k = difference-zero t.p (pos given t g) (itself (unit (leaf k)))
 
   -- the image from the two factors
   pub image-pushes : (c : ℕ) (l r : Tree) → Alike t.p (scale c (reindex (beside (Right, r)) (mono_less t l)) ++ scale c (spread (λ b. reindex (beside (Left, b)) (mono_less t r)) (mono_value (mono_entry t.parts) l)))
       (scale c (image_less t (node l r)))
   unfolding image_less
-  image-pushes c l r = image-pushed fs t g c l r
+  image-pushes c l r = image-pushed given t g c l r
 
   -- ---- kept instances
 
   module _ (w : List ℕ) (ty : IsProductType t w) (k : ℕ) (here : k < length (origins_at t.parts w)) where
     -- the monomials of an instance have its type
-    pub instance-type : (p : ℕ) → Each (λ s. IsOfType w s.1) (normal p (origin_instance fs t w k))
+    pub instance-type : (p : ℕ) → Each (λ s. IsOfType w s.1) (normal p (origin_instance given.forms t w k))
     unfolding tuple_instance
-    instance-type p = normal-each (IsOfType w) p (origin_instance fs t w k)
-        (instance-types t.p (pos fs t g) fs g.multilinear g.high t.target (sum w - 1) (some fs t g w ty.covered ty.long ty.big) (mono_entry t.parts) (over-low fs t g w ty.covered ty.long ty.big)
-        w (to fs t g w ty.covered ty.long ty.big) (next fs t g w ty.covered ty.long ty.big) (instance_at t.parts (origin_at (origins_at t.parts w) k)) (origin-named fs t g w ty.covered ty.long ty.big k here))
+    instance-type p = normal-each (IsOfType w) p (origin_instance given.forms t w k)
+        (instance-types t.p (pos given t g) given.forms g.multilinear g.high t.target (sum w - 1) (some given t g w ty.covered ty.long ty.big) (mono_entry t.parts) (over-low given t g w ty.covered ty.long ty.big)
+        w (to given t g w ty.covered ty.long ty.big) (next given t g w ty.covered ty.long ty.big) (instance_at t.parts (origin_at (origins_at t.parts w) k)) (origin-named given t g w ty.covered ty.long ty.big k here))
 
     -- the row of a kept instance is its instance, less what the monomials differ from their images by
-    pub origin-alike : Alike t.p (origin_row fs t w k) (origin_instance fs t w k ++ scale (t.p - 1) (spread (image_less t) (origin_instance fs t w k)))
+    pub origin-alike : Alike t.p (origin_row given.forms t w k) (origin_instance given.forms t w k ++ scale (t.p - 1) (spread (image_less t) (origin_instance given.forms t w k)))
     unfolding tuple_instance image_less
     origin-alike = joined
-        (tuple-image_at t.p (pos fs t g) fs g.multilinear g.high t.target (sum w - 1) (some fs t g w ty.covered ty.long ty.big) (mono_entry t.parts) (over-low fs t g w ty.covered ty.long ty.big)
-        w (to fs t g w ty.covered ty.long ty.big) (next fs t g w ty.covered ty.long ty.big) (instance_at t.parts (origin_at (origins_at t.parts w) k)) (origin-named fs t g w ty.covered ty.long ty.big k here))
-        (less-back t.p (pos fs t g) (image node (mono_entry t.parts) (λ j. unit (leaf j))) (origin_instance fs t w k))
+        (tuple-image_at t.p (pos given t g) given.forms g.multilinear g.high t.target (sum w - 1) (some given t g w ty.covered ty.long ty.big) (mono_entry t.parts) (over-low given t g w ty.covered ty.long ty.big)
+        w (to given t g w ty.covered ty.long ty.big) (next given t g w ty.covered ty.long ty.big) (instance_at t.parts (origin_at (origins_at t.parts w) k)) (origin-named given t g w ty.covered ty.long ty.big k here))
+        (less-back t.p (pos given t g) (image node (mono_entry t.parts) (λ j. unit (leaf j))) (origin_instance given.forms t w k))
 
     -- the same, a multiple, with the terms of the normal form
-    pub origin-pushed : (c : ℕ) → Alike t.p (scale c (origin_instance fs t w k) ++ scale (t.p - 1) (scale c (spread (image_less t) (normal t.p (origin_instance fs t w k))))) (scale c (origin_row fs t w k))
+    pub origin-pushed : (c : ℕ) → Alike t.p (scale c (origin_instance given.forms t w k) ++ scale (t.p - 1) (scale c (spread (image_less t) (normal t.p (origin_instance given.forms t w k))))) (scale c (origin_row given.forms t w k))
     origin-pushed c =
-        let i : Poly = origin_instance fs t w k in
+        let i : Poly = origin_instance given.forms t w k in
         joined (append-alike (itself (scale c i)) (joined (scale-alike (t.p - 1) (scale-alike c (spread-alike (image_less t) (normal-alike t.p i)))) (scales-swap (t.p - 1) c (spread (image_less t) i))))
         (joined (scale-joined c i (scale (t.p - 1) (spread (image_less t) i))) (scale-alike c (turned origin-alike)))
 

@@ -1,5 +1,5 @@
 -- Sums that are added to, step by step.
-use Rattle.std.proofs.Common.{◌≡◌, ℕ, ◌+◌, ◌*◌, ◌<◌, ◌≤◌, List, [], ◌∷◌, ◌++◌, length, get_or, take, sym, ap, ◌∙◌, subst, arith, append_assoc, Option, Some, None}
+use Rattle.std.proofs.Common.{◌≡◌, ℕ, ◌+◌, ◌*◌, ◌<◌, ◌≤◌, List, [], ◌∷◌, ◌++◌, length, get_or, take, sym, ap, ◌∙◌, subst, arith, append_assoc}
 use Rattle.std.specs.Prelude.{All}
 use Rattle.std.proofs.lemmas.List.{map-append, take_more, take_all}
 use Rattle.std.proofs.Math.Nat.{mul-add, mul_assoc}
@@ -18,6 +18,8 @@ use Rattle.alb_table.specs.Table.{Table}
 use Rattle.alb_table.proofs.Spans.{weigh-spread}
 use Rattle.alb_trace.specs.Adds.{item_of, item_times}
 use Rattle.alb_trace.specs.Trace.{lines_of, IsTrace, Derives, Pushes}
+use Rattle.alb_trace.specs.declared.trace.Citation.{Citation}
+use Rattle.alb_trace.specs.declared.trace.Citation.TheVariants as citations
 use Rattle.alb_trace.specs.declared.trace.Trace.{Trace}
 use Rattle.alb_trace.proofs.Adds.{longer-itself, longer-joined, longer-sum}
 
@@ -75,7 +77,7 @@ module _ (fs : List Form) (t : Table) where
   }
 
   -- a multiple of what is derived
-  pub pushes-item : (old new : Trace) (before : List (ℕ × ℕ)) (o : Option ℕ) (y : ℕ) (f : Poly) → y < t.p → Derives fs t old new o f →
+  pub pushes-item : (old new : Trace) (before : List (ℕ × ℕ)) (o : Citation) (y : ℕ) (f : Poly) → y < t.p → Derives fs t old new o f →
       Pushes fs t old new before (before ++ item_times y o) (scale y f)
   pushes-item old new before o y f l d = record {
     trace = d.trace;
@@ -84,13 +86,13 @@ module _ (fs : List Form) (t : Table) where
     sum = λ g a. sum-append t.p fs (longer-sum t.p fs d.adds.longer before a) (item-sum o d.adds.sum);
   }
     where
-      item-residue : (o : Option ℕ) → All (λ c. c.0 < t.p) (item_times y o)
-      item-residue None = λ k x m. absurd (omega arith)
-      item-residue (Some k) = All-cons (λ c. c.0 < t.p) (y, k) [] l (λ j x m. absurd (omega arith))
+      item-residue : (o : Citation) → All (λ c. c.0 < t.p) (item_times y o)
+      item-residue citations.Zero = λ k x m. absurd (omega arith)
+      item-residue (citations.Line k) = All-cons (λ c. c.0 < t.p) (y, k) [] l (λ j x m. absurd (omega arith))
 
-      item-sum : (o : Option ℕ) → IsSumOf t.p fs (lines_of new) (item_of o) f → IsSumOf t.p fs (lines_of new) (item_times y o) (scale y f)
-      item-sum None a = sum-scale t.p fs y a
-      item-sum (Some k) a = let e : y * 1 ≡ y = omega arith in subst (λ z. IsSumOf t.p fs (lines_of new) ((z, k) ∷ []) (scale y f)) e (sum-scale t.p fs y a)
+      item-sum : (o : Citation) → IsSumOf t.p fs (lines_of new) (item_of o) f → IsSumOf t.p fs (lines_of new) (item_times y o) (scale y f)
+      item-sum citations.Zero a = sum-scale t.p fs y a
+      item-sum (citations.Line k) a = let e : y * 1 ≡ y = omega arith in subst (λ z. IsSumOf t.p fs (lines_of new) ((z, k) ∷ []) (scale y f)) e (sum-scale t.p fs y a)
 
   -- one more term of a combination over the columns of a row
   pub pushes-next : (old mid new : Trace) (before between after : List (ℕ × ℕ)) (c y : ℕ) (h : ℕ → Poly) (cells : Cells) (k : ℕ) (d : ℕ × ℕ) → k < length cells →

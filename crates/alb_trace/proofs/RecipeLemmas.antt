@@ -9,7 +9,6 @@ use Rattle.std.proofs.lemmas.List.Sums.{fails_before_first}
 use Rattle.gf_sums.specs.Sums.{Comb}
 use Rattle.alb_mono.specs.Listing.{IsIn}
 use Rattle.alb_mono.specs.Tree.{leaf, node}
-use Rattle.alb_poly.specs.Instance.{Form}
 use Rattle.alb_poly.specs.Poly.{IsSamePoly}
 use Rattle.alb_poly.proofs.Consequence.{poly_alike}
 use Rattle.alb_rows.specs.Span.{IsPivot}
@@ -18,6 +17,7 @@ use Rattle.alb_table.specs.Columns.{col}
 use Rattle.alb_table.specs.Entry.{products}
 use Rattle.alb_table.specs.Grid.{same_pair}
 use Rattle.alb_table.specs.PartView.{type_at, mono_at, origins_at}
+use Rattle.alb_table.specs.RightFor.{RulesView, IsRightFor}
 use Rattle.alb_table.specs.Table.{Table}
 use Rattle.alb_table.proofs.RangeLemmas.{product_in, number_in_range}
 use Rattle.alb_table.proofs.TableLemmas.{type_shape, types_ascend}
@@ -26,7 +26,6 @@ use Rattle.alb_subst.proofs.SumLemmas.{pairs_tell}
 use Rattle.alb_block.specs.Instances.{columns_of}
 use Rattle.alb_block.specs.Meaning.{column_monos}
 use Rattle.alb_block.proofs.ListLemmas.{in-reverse, in_place}
-use Rattle.alb_trace.specs.Given.{IsRightOver}
 use Rattle.alb_trace.specs.Origins.{product_type, IsOriginBlock}
 use Rattle.alb_trace.specs.Recipes.{IsProduct, IsRecipeFor}
 use Rattle.alb_trace.specs.Trace.{product_less}
@@ -42,7 +41,7 @@ position-in q xs h e =
     let t : same_pair q q ≡ true = pairs_tell.whole q in
     let z : same_pair q q ≡ false = subst (λ x. same_pair q x ≡ false) (k.2 q) f in absurd (cc)
 
-module _ (fs : List Form) (t : Table) (g : IsRightOver fs t) (b c : ℕ) (p : IsProduct t (b, c)) where
+module _ (given : RulesView) (t : Table) (g : IsRightFor given t) (b c : ℕ) (p : IsProduct t (b, c)) where
   listed : IsIn (b, c) (products t.parts (product_type t (b, c)))
   listed =
       let x = type_shape t b g.table p.left in
@@ -52,7 +51,7 @@ module _ (fs : List Form) (t : Table) (g : IsRightOver fs t) (b c : ℕ) (p : Is
       (record { long = sym (length-type_plus (type_at t.parts b) (type_at t.parts c) e); long_right = sym e ∙ sym (length-type_plus (type_at t.parts b) (type_at t.parts c) e); left = x.some; right = y.some; both = refl })
       (number_in_range t.parts b (types_ascend t g.table) p.left) (number_in_range t.parts c (types_ascend t g.table) p.right)
 
-  module _ (columns : List (ℕ × ℕ)) (r : Reduction) (block : IsOriginBlock fs t (product_type t (b, c)) columns r) where
+  module _ (columns : List (ℕ × ℕ)) (r : Reduction) (block : IsOriginBlock given.forms t (product_type t (b, c)) columns r) where
     -- the product has a column
     pub column-found : position (λ x. same_pair (b, c) x) columns ≡ None → ⊥
     column-found e = position-in (b, c) (columns_of t.parts (product_type t (b, c))) (in-reverse (b, c) (products t.parts (product_type t (b, c))) listed)
@@ -72,11 +71,11 @@ module _ (fs : List Form) (t : Table) (g : IsRightOver fs t) (b c : ℕ) (p : Is
           ∙ sym (ap (λ (q : ℕ × ℕ). node (mono_at t.parts q.0) (mono_at t.parts q.1)) place.1)
 
       pub recipe-none : (IsPivot t.p (kept r) j → ⊥) → IsSamePoly t.p (product_less t (b, c)) []
-      recipe-none n = poly_alike (product-free fs t g (product_type t (b, c)) p.type.covered p.type.long p.type.big columns r block b c j within is n)
+      recipe-none n = poly_alike (product-free given t g (product_type t (b, c)) p.type.covered p.type.long p.type.big columns r block b c j within is n)
 
-      pub recipe-some : (items : Comb ℕ) → IsRecipe r j items → IsRecipeFor fs t (b, c) items
+      pub recipe-some : (items : Comb ℕ) → IsRecipe r j items → IsRecipeFor given.forms t (b, c) items
       recipe-some items k = record {
         below = λ i d l. number_below r.offers (length (origins_at t.parts (product_type t (b, c)))) (get_or items i d).1 block.offered_all.below (k.tags i d l);
         residues = subst (λ m. All (λ s. s.0 < m) items) block.offered_all.field k.residues;
-        gives = poly_alike (product-recipe fs t g (product_type t (b, c)) p.type.covered p.type.long p.type.big columns r block b c j within is items k);
+        gives = poly_alike (product-recipe given t g (product_type t (b, c)) p.type.covered p.type.long p.type.big columns r block b c j within is items k);
       }

@@ -4,8 +4,7 @@ use Rattle.std.proofs.Math.Nat.{mul-add, mul_left_comm}
 use Rattle.gf_field.proofs.Mod.{same, back, ◌⊙◌, plus, times, multiple}
 use Rattle.gf_sums.specs.Sums.{Comb, weigh, scale, reindex, multiply}
 use Rattle.gf_sums.proofs.Totals.{weigh-append, weigh-scale, weigh-multiply, weigh-equal}
-use Rattle.gf_sums.proofs.Alike.{Alike, equal, joined, append-alike, weigh-reindex}
-use Rattle.alb_mono.specs.Listing.{Each}
+use Rattle.gf_sums.proofs.Alike.{Alike, equal, weigh-reindex}
 use Rattle.alb_mono.specs.Tree.{Tree, node}
 use Rattle.alb_mono.specs.declared.side.Side.TheVariants.{Left, Right}
 use Rattle.alb_poly.specs.Algebra.{unit}
@@ -13,8 +12,8 @@ use Rattle.alb_poly.specs.Context.{beside}
 use Rattle.alb_poly.specs.Poly.{Poly}
 use Rattle.alb_table.specs.Leading.{difference, outer}
 use Rattle.alb_table.specs.Block.{spread}
-use Rattle.alb_table.proofs.Congruent.{minus_one, minus_twice, weigh-outer}
-use Rattle.alb_table.proofs.Spans.{weigh-spread, spread-each}
+use Rattle.alb_table.proofs.Congruent.{minus_one, weigh-outer}
+use Rattle.alb_table.proofs.Spans.{weigh-spread}
 
 weigh-difference : {I : Type 0} (w : I → ℕ) (p : ℕ) (f g : Comb I) → weigh w (difference p f g) ≡ weigh w f + (p - 1) * weigh w g
 weigh-difference w p f g = weigh-append w f (scale (p - 1) g) ∙ ap (λ n. weigh w f + n) (weigh-scale w (p - 1) g)
@@ -84,32 +83,3 @@ module _ (p : ℕ) (pos : 0 < p) where
       weigh-multiply (λ b c. difference p (unit (node b c)) (entry b c)) w f g
       ∙ weigh-equal _ _ f (λ b. weigh-all_less p w (λ c. node b c) (λ c. entry b c) g)
       ∙ weigh-linear (p - 1) (λ b. weigh (λ c. w (node b c)) g) (λ b. weigh (λ c. weigh w (entry b c)) g) f)))
-
-  -- A product less its value.
-  pub product-split : (entry : Tree → Tree → Poly) (l r : Tree) (f g : Poly) → Alike p (difference p (unit (node l r)) (multiply entry f g))
-      ((reindex (beside (Right, r)) (difference p (unit l) f) ++ spread (λ b. reindex (beside (Left, b)) (difference p (unit r) g)) f)
-      ++ multiply (λ b c. difference p (unit (node b c)) (entry b c)) f g)
-  product-split entry l r f g = joined (difference-joined (unit (node l r)) (outer node f g) (multiply entry f g)) (append-alike (image-split l r f g) (entries-split entry f g))
-
-  -- An element of the span of rows: the combination of the polynomials whose images the rows are, less what these
-  -- polynomials differ from their images.
-  pub recipe-split : {N I : Type 0} (Named : N → Type 0) (row polynomial : N → Comb I) (image : I → Comb I) (x : Comb I) (items : Comb N) →
-      ((n : N) → Named n → Alike p (row n) (spread image (polynomial n))) → Each (λ t. Named t.1) items → Alike p x (spread row items) →
-      Alike p x (spread polynomial items ++ scale (p - 1) (spread (λ n. spread (λ u. difference p (unit u) (image u)) (polynomial n)) items))
-  recipe-split Named row polynomial image x items rows named gives =
-      joined gives (joined (spread-each Named row (λ n. spread image (polynomial n)) items rows named) (record {
-        at = λ w.
-            let A : ℕ = weigh (λ n. weigh w (polynomial n)) items in
-            let B : ℕ = weigh (λ n. weigh (λ u. weigh w (image u)) (polynomial n)) items in
-            let z : A * p + (p - 1) * ((p - 1) * B) ≡ A + (p - 1) * (A + (p - 1) * B) = omega (arith, minus_one p A pos, mul-add (p - 1) A ((p - 1) * B)) in
-            let less : weigh w (spread (λ n. spread (λ u. difference p (unit u) (image u)) (polynomial n)) items) ≡ A + (p - 1) * B =
-            weigh-spread w (λ n. spread (λ u. difference p (unit u) (image u)) (polynomial n)) items
-            ∙ weigh-equal _ _ items (λ n. weigh-spread w (λ u. difference p (unit u) (image u)) (polynomial n) ∙ weigh-all_less p w (λ u. u) image (polynomial n))
-            ∙ weigh-linear (p - 1) (λ n. weigh w (polynomial n)) (λ n. weigh (λ u. weigh w (image u)) (polynomial n)) items in
-            same (weigh-spread w (λ n. spread image (polynomial n)) items ∙ weigh-equal _ _ items (λ n. weigh-spread w image (polynomial n)))
-            ⊙ back (minus_twice p B pos)
-            ⊙ back (multiple A ((p - 1) * ((p - 1) * B)))
-            ⊙ same z
-            ⊙ same (sym (weigh-append w (spread polynomial items) (scale (p - 1) (spread (λ n. spread (λ u. difference p (unit u) (image u)) (polynomial n)) items))
-            ∙ rw (weigh-spread w polynomial items, weigh-scale w (p - 1) (spread (λ n. spread (λ u. difference p (unit u) (image u)) (polynomial n)) items), less)));
-      }))

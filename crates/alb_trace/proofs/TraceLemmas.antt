@@ -1,5 +1,5 @@
 -- What a trace keeps while lines are added.
-use Rattle.std.proofs.Common.{◌≡◌, ℕ, ◌+◌, ◌<◌, ◌≤◌, List, [], ◌∷◌, ◌++◌, length, get_or, drop, add-one, append_assoc, map, sym, ap, ◌∙◌, subst, arith, Option, Some, None}
+use Rattle.std.proofs.Common.{◌≡◌, ℕ, ◌+◌, ◌<◌, ◌≤◌, List, [], ◌∷◌, ◌++◌, length, get_or, drop, add-one, append_assoc, map, sym, ap, ◌∙◌, subst, arith}
 use Rattle.std.specs.Prelude.{All}
 use Rattle.std.proofs.lemmas.List.{map-append, length-map, length-append, append-nil, drop_all}
 use Rattle.std.proofs.Math.Seq.{drop-cons}
@@ -32,6 +32,8 @@ use Rattle.alb_trace.specs.Adds.{item_of, IsLonger}
 use Rattle.alb_trace.specs.Given.{FitsTarget}
 use Rattle.alb_trace.specs.Origins.{IsOriginBlock}
 use Rattle.alb_trace.specs.Trace.{most_items, lines_of, mono_less, IsTrace, Derives, Carries}
+use Rattle.alb_trace.specs.declared.trace.Citation.{Citation}
+use Rattle.alb_trace.specs.declared.trace.Citation.TheVariants as citations
 use Rattle.alb_trace.specs.declared.trace.Trace.{Trace}
 use Rattle.alb_trace.proofs.Adds.{longer-itself, longer-joined, longer-sum, longer-one, adds-nothing, adds-then}
 
@@ -50,23 +52,23 @@ right-each P [] ys a = a
 right-each P (x ∷ xs) ys a = right-each P xs ys a.1
 
 module _ (fs : List Form) (t : Table) where
-  -- what is known stays known behind further lines
-  pub trace-longer : (old new : Trace) → IsLonger (lines_of old) (lines_of new) → ((q : ℕ × ℕ) → get same_pair new.products q ≡ get same_pair old.products q) → new.monos.items ≡ old.monos.items → new.blocks.items ≡ old.blocks.items →
+  -- what is known stays known after further lines
+  pub trace-longer : (old new : Trace) → IsLonger (lines_of old) (lines_of new) → ((q : ℕ × ℕ) → get same_pair new.products q ≡ get same_pair old.products q) → new.monomials.items ≡ old.monomials.items → new.blocks.items ≡ old.blocks.items →
       AreFine t.p most_items t.target fs (lines_of new) → All (λ l. IsLine t.p (length t.target) l) new.lines.items → IsTrace fs t old → IsTrace fs t new
   trace-longer old new longer ep em eb fine printable h = record {
     table = h.table;
     fine = fine;
     printable = printable;
     products = λ q o g. longer-sum t.p fs longer (item_of o) (h.products q o (sym (ep q) ∙ g));
-    monos = subst (Each (λ x. IsSumOf t.p fs (lines_of new) (item_of x.1) (mono_less t (tree x.0)))) (sym em)
-        (each-from _ _ old.monos.items (λ x k. longer-sum t.p fs longer (item_of x.1) k) h.monos);
+    monomials = subst (Each (λ x. IsSumOf t.p fs (lines_of new) (item_of x.1) (mono_less t (tree x.0)))) (sym em)
+        (each-from _ _ old.monomials.items (λ x k. longer-sum t.p fs longer (item_of x.1) k) h.monomials);
     blocks = subst (Each (λ b. IsOriginBlock fs t b.at b.columns b.reduced)) (sym eb) h.blocks;
   }
 
-  -- a line behind the others
-  pub line-derives : (old new : Trace) (l : Line) (n : ℕ) (f : Poly) → new.lines.items ≡ old.lines.items ++ l ∷ [] → ((q : ℕ × ℕ) → get same_pair new.products q ≡ get same_pair old.products q) → new.monos.items ≡ old.monos.items → new.blocks.items ≡ old.blocks.items →
+  -- a line after the others
+  pub line-derives : (old new : Trace) (l : Line) (n : ℕ) (f : Poly) → new.lines.items ≡ old.lines.items ++ l ∷ [] → ((q : ℕ × ℕ) → get same_pair new.products q ≡ get same_pair old.products q) → new.monomials.items ≡ old.monomials.items → new.blocks.items ≡ old.blocks.items →
       n ≡ length new.lines.items → IsTrace fs t old → IsLine t.p (length t.target) l → AreFine t.p most_items t.target fs (lines_of old ++ line l ∷ []) →
-      IsLineOf t.p fs (lines_of old ++ line l ∷ []) (length (lines_of old) + 1) f → Derives fs t old new (Some n) f
+      IsLineOf t.p fs (lines_of old ++ line l ∷ []) (length (lines_of old) + 1) f → Derives fs t old new (citations.Line n) f
   line-derives old new l n f e ep em eb en h i fine is =
       let v : lines_of new ≡ lines_of old ++ line l ∷ [] = views-more old.lines.items new.lines.items l e in
       let longer : IsLonger (lines_of old) (lines_of new) = longer-one (line l) v in
@@ -92,10 +94,10 @@ module _ (fs : List Form) (t : Table) where
     next-sum part f a l = append-sum t.p positive most_items t.target fs (lines_of s) part f h.fine a l
 
     -- no line for zero, and one that there is
-    pub derives-none : (f : Poly) → IsSumOf t.p fs (lines_of s) [] f → Derives fs t s s None f
+    pub derives-none : (f : Poly) → IsSumOf t.p fs (lines_of s) [] f → Derives fs t s s citations.Zero f
     derives-none f a = record { trace = h; adds = adds-nothing t.p most_items t.target fs h.fine a }
 
-    pub derives-known : (o : Option ℕ) (f : Poly) → IsSumOf t.p fs (lines_of s) (item_of o) f → Derives fs t s s o f
+    pub derives-known : (o : Citation) (f : Poly) → IsSumOf t.p fs (lines_of s) (item_of o) f → Derives fs t s s o f
     derives-known o f a = record { trace = h; adds = adds-nothing t.p most_items t.target fs h.fine a }
 
     -- items that stay as they are
@@ -110,7 +112,7 @@ module _ (fs : List Form) (t : Table) where
 
     -- and then takes its place
     pub carries-line : (new : Trace) (part rest : List (ℕ × ℕ)) (n : ℕ) (f : Poly) → IsSumOf t.p fs (lines_of s) (part ++ rest) f →
-        Derives fs t s new (Some n) (sum_of fs (lines_of s) part) → Carries fs t s new ((1, n) ∷ []) rest f
+        Derives fs t s new (citations.Line n) (sum_of fs (lines_of s) part) → Carries fs t s new ((1, n) ∷ []) rest f
     carries-line new part rest n f a d =
         let e : sum_of fs (lines_of s) (part ++ rest) ≡ sum_of fs (lines_of s) part ++ sum_of fs (lines_of s) rest = sum_of-append fs (lines_of s) part rest in
         let r : IsSumOf t.p fs (lines_of s) rest (sum_of fs (lines_of s) rest) =
@@ -122,11 +124,7 @@ module _ (fs : List Form) (t : Table) where
           sum = sum-alike t.p fs (joined (itself' _ _ (sym e)) (alike_poly a.same)) (sum-append t.p fs d.adds.sum (longer-sum t.p fs d.adds.longer rest r));
         }
 
-  -- one step after another
-  pub carries-joined : (old mid new : Trace) (part rest : List (ℕ × ℕ)) (f : Poly) → IsLonger (lines_of old) (lines_of mid) → Carries fs t mid new part rest f → Carries fs t old new part rest f
-  carries-joined old mid new part rest f a c = record { trace = c.trace; longer = longer-joined a c.longer; residues = c.residues; sum = c.sum }
-
-  pub derives-joined : (old mid new : Trace) (o : Option ℕ) (f : Poly) → IsLonger (lines_of old) (lines_of mid) → Derives fs t mid new o f → Derives fs t old new o f
+  pub derives-joined : (old mid new : Trace) (o : Citation) (f : Poly) → IsLonger (lines_of old) (lines_of mid) → Derives fs t mid new o f → Derives fs t old new o f
   derives-joined old mid new o f a d = record { trace = d.trace; adds = adds-then t.p most_items t.target fs a d.adds }
 
   -- the next item of a sum
@@ -154,7 +152,7 @@ module _ (fs : List Form) (t : Table) where
 
   module _ (s : Trace) (h : IsTrace fs t s) (side : Side) (m : Tree) (f : Poly) where
     -- a line times a monomial may be the next line
-    pub next-times : (k : ℕ) (y : Tree) → y ≡ m → IsSumOf t.p fs (lines_of s) (item_of (Some k)) f → IsTrue (are_below (length t.target) m) → FitsTarget t (reindex (beside (side, m)) f) →
+    pub next-times : (k : ℕ) (y : Tree) → y ≡ m → IsSumOf t.p fs (lines_of s) (item_of (citations.Line k)) f → IsTrue (are_below (length t.target) m) → FitsTarget t (reindex (beside (side, m)) f) →
         Appends t.p most_items t.target fs (lines_of s) (value.Times k (side, y)) (reindex (beside (side, m)) f)
     next-times k y q a b e = subst (λ z. Appends t.p most_items t.target fs (lines_of s) (value.Times k (side, z)) (reindex (beside (side, m)) f)) (sym q)
         (append-times t.p (positive s h) most_items t.target fs (lines_of s) k (side, m) f h.fine (one-line t.p fs a) (below_from_test (length t.target) m b) e)
@@ -164,5 +162,5 @@ module _ (fs : List Form) (t : Table) where
     times-printable k y q b d = (subst (λ z. IsTrue (are_below (length t.target) z)) (sym q) b, subst (λ z. degree z ≤ 64) (sym q) d)
 
     -- no line stays none
-    pub none-times : IsSumOf t.p fs (lines_of s) [] f → Derives fs t s s None (reindex (beside (side, m)) f)
+    pub none-times : IsSumOf t.p fs (lines_of s) [] f → Derives fs t s s citations.Zero (reindex (beside (side, m)) f)
     none-times a = derives-none s h (reindex (beside (side, m)) f) (none-beside t.p fs (side, m) a)

@@ -1,35 +1,16 @@
--- What the functions of a trace are given, and the rows of values.
-use Rattle.std.specs.Prelude.{◌≡◌, ℕ, ◌<◌, ◌≤◌, ◌^◌, false, List, length, sum, All}
+-- Polynomials that fit the target, the rows of values, and the types of products.
+use Rattle.std.specs.Prelude.{◌≡◌, ℕ, ◌≤◌, false, List, length, sum, All}
 use Rattle.gf_field.specs.Modular.{IsSameMod}
 use Rattle.gf_sums.specs.Sums.{coefficient, reindex}
-use Rattle.alb_mono.specs.Listing.{Each}
 use Rattle.alb_mono.specs.Tree.{Tree, type_of, type_le, same_tree}
 use Rattle.alb_poly.specs.Poly.{Poly, IsSamePoly}
 use Rattle.alb_poly.specs.Instance.{Form}
-use Rattle.alb_poly.specs.Consequence.{AreMultilinear}
-use Rattle.alb_poly.specs.Rules.{forms}
-use Rattle.alb_poly.specs.declared.rules.Rules.{Rules}
-use Rattle.alb_linear.specs.Identity.{IsLinearized}
 use Rattle.alb_rows.specs.Row.{Cells, comb}
 use Rattle.alb_table.specs.PartView.{elems, mono_at}
-use Rattle.alb_table.specs.Right.{AreHigh, mono_value, IsPart, IsBasisTo}
-use Rattle.alb_table.specs.RightTable.{IsRightTable, mono_entry}
-use Rattle.alb_table.specs.Table.{Table, IsTable, CoversType}
+use Rattle.alb_table.specs.Right.{mono_value, IsPart, IsBasisTo}
+use Rattle.alb_table.specs.RightTable.{mono_entry}
+use Rattle.alb_table.specs.Table.{Table, CoversType}
 use Rattle.alb_table.specs.Value.{IsVector}
-
--- the forms of the rules are linearized over the field of the table, and have degree 2 to 8
-pub record AreFormsOver (rules : Rules) (table : Table) : Type 0 where
-  pub linearized : Each (IsLinearized table.p) (forms rules)
-  pub low : Each (λ f. f.degree ≤ 8) (forms rules)
-  pub high : Each (λ f. 2 ≤ f.degree) (forms rules)
-  pub few : length rules.linears.items < 2 ^ 32
-
--- the table is right over the forms, which are multilinear and have degree 2 or more
-pub record IsRightOver (fs : List Form) (t : Table) : Type 0 where
-  pub table : IsTable t
-  pub right : IsRightTable fs t
-  pub multilinear : AreMultilinear fs
-  pub high : AreHigh fs
 
 -- each monomial whose type is not at most the target has the coefficient zero
 abbrev pub FitsTarget : Table → Poly → Type 0

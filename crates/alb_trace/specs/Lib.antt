@@ -1,5 +1,6 @@
 pub mod Adds
 pub mod Given
+pub mod Ground
 pub mod Origins
 pub mod Trace
 pub mod Recipes

@@ -1,5 +1,5 @@
 -- What contracts see of a trace: the lines so far, and what is derived already.
-use Rattle.std.specs.Prelude.{◌≡◌, ℕ, ◌<◌, List, ◌++◌, Option, Some, All, length, map}
+use Rattle.std.specs.Prelude.{◌≡◌, ℕ, ◌<◌, List, ◌++◌, Some, All, length, map}
 use Rattle.indexmap.specs.IndexMap.{get}
 use Rattle.alb_mono.specs.Listing.{Each}
 use Rattle.alb_mono.specs.Mono.{tree}
@@ -19,6 +19,7 @@ use Rattle.alb_table.specs.RightTable.{mono_entry}
 use Rattle.alb_table.specs.Table.{Table, IsTable}
 use Rattle.alb_trace.specs.Adds.{item_of, IsLonger, Adds}
 use Rattle.alb_trace.specs.Origins.{IsOriginBlock}
+use Rattle.alb_trace.specs.declared.trace.Citation.{Citation}
 use Rattle.alb_trace.specs.declared.trace.Trace.{Trace}
 
 -- a sum has at most this many items
@@ -46,18 +47,18 @@ image_less t m = difference t.p (unit m) (image node (mono_entry t.parts) (λ k.
 unfoldable pub entries_less : Table → Tree → Poly
 entries_less t m = difference t.p (image node (mono_entry t.parts) (λ k. unit (leaf k)) m) (mono_value (mono_entry t.parts) m)
 
--- WHAT A TRACE KEEPS: its lines have no fault and can be printed, each product and monomial that it knows has its line, or is equal
--- to its entry or value, and its blocks are those of kept instances
+-- WHAT A TRACE KEEPS: its lines have no fault and can be printed, each product and monomial that it knows is cited as it was
+-- derived, less its entry or value, and its blocks are those of kept instances
 pub record IsTrace (fs : List Form) (t : Table) (s : Trace) : Type 0 where
   pub table : IsTable t
   pub fine : AreFine t.p most_items t.target fs (lines_of s)
   pub printable : All (λ l. IsLine t.p (length t.target) l) s.lines.items
-  pub products : (q : ℕ × ℕ) (o : Option ℕ) → get same_pair s.products q ≡ Some o → IsSumOf t.p fs (lines_of s) (item_of o) (product_less t q)
-  pub monos : Each (λ x. IsSumOf t.p fs (lines_of s) (item_of x.1) (mono_less t (tree x.0))) s.monos.items
+  pub products : (q : ℕ × ℕ) (o : Citation) → get same_pair s.products q ≡ Some o → IsSumOf t.p fs (lines_of s) (item_of o) (product_less t q)
+  pub monomials : Each (λ x. IsSumOf t.p fs (lines_of s) (item_of x.1) (mono_less t (tree x.0))) s.monomials.items
   pub blocks : Each (λ b. IsOriginBlock fs t b.at b.columns b.reduced) s.blocks.items
 
--- the polynomial `f` has been derived: it has the line `o`, or is zero
-pub record Derives (fs : List Form) (t : Table) (old new : Trace) (o : Option ℕ) (f : Poly) : Type 0 where
+-- the polynomial `f` has been derived, and is cited by `o`
+pub record Derives (fs : List Form) (t : Table) (old new : Trace) (o : Citation) (f : Poly) : Type 0 where
   pub trace : IsTrace fs t new
   pub adds : Adds t.p most_items t.target fs (lines_of old) (lines_of new) o f
 

@@ -6,13 +6,14 @@
 mod answers;
 mod factors;
 mod first;
+mod ground;
 mod instances;
-mod known;
 pub mod laws;
 mod lines;
 mod origins;
 mod products;
 mod proving;
+mod sums;
 mod trace;
 
 pub use answers::{derive, derive_entry, derive_monomial};

@@ -1,43 +1,30 @@
-use Rattle.std.proofs.Common.{rules, ◌≡◌, ℕ, ◌<◌, List, [], sym, subst}
-use Rattle.std.specs.Prelude.{All}
-use Rattle.alb_poly.proofs.Multilinear.{all_from_each}
+use Rattle.std.proofs.Common.{ℕ}
 use Rattle.alb_mono.specs.Tree.{Tree}
 use Rattle.alb_poly.specs.Rules.{forms}
-use Rattle.alb_deriv.specs.Short.{IsSumOf}
+use Rattle.alb_poly.proofs.Multilinear.{all_from_each}
 use Rattle.alb_table.specs.Block.{spread}
-use Rattle.alb_table.specs.RightFor.{rules_view}
 use Rattle.alb_table.specs.Right.{IsWithin}
-use Rattle.alb_trace.specs.Given.{IsRightOver}
+use Rattle.alb_table.specs.RightFor.{rules_view}
 use Rattle.alb_trace.specs.Trace.{lines_of, mono_less}
 use Rattle.alb_trace.proofs.Asked.{answered-within, answered-sum}
-use Rattle.alb_trace.proofs.Ends.{rules-few}
-use Rattle.alb_trace.proofs.Premises.{forms-over, right-over}
+use Rattle.alb_trace.proofs.Ends.{forms-few}
 use Rattle.alb_trace.proofs.ProductLemmas.{pushes-sum, pushes-residues}
 use Rattle.alb_trace.proofs.answers.derive.Goals as goal
 
-pub push_terms-requires-clause-trace : goal.push_terms-requires-clause-trace
-push_terms-requires-clause-trace c = c.empty_trace-trace.ensures.trace (forms c.args.rules.now)
+pub add_monomials-requires-clause-trace : goal.add_monomials-requires-clause-trace
+add_monomials-requires-clause-trace c = c.new-trace.ensures (forms c.args.rules.now) c.args.tables.now c.requires.right.table
 
-pub push_terms-requires-clause-within : goal.push_terms-requires-clause-within
-push_terms-requires-clause-within c =
+pub add_monomials-requires-clause-within : goal.add_monomials-requires-clause-within
+add_monomials-requires-clause-within c =
     all_from_each (λ (s : ℕ × Tree). IsWithin c.args.tables.now.target c.args.tables.now.degree s.1) c.args.g.now
     (answered-within c.args.tables.now.p (forms c.args.rules.now) c.args.tables.now.target c.args.tables.now.degree c.args.g.now c.requires.zero)
 
-pub push_terms-requires-clause-rules : goal.push_terms-requires-clause-rules
-push_terms-requires-clause-rules c = forms-over c.args.rules.now c.args.tables.now c.requires.rules c.requires.right
-
-pub push_terms-requires-clause-right : goal.push_terms-requires-clause-right
-push_terms-requires-clause-right c = right-over (rules_view c.args.rules.now) c.args.tables.now c.requires.right
-
 pub returns : goal.returns
 returns c =
-    let right : IsRightOver (forms c.args.rules.now) c.args.tables.now = right-over (rules_view c.args.rules.now) c.args.tables.now c.requires.right in
-    let none : c.new-items.result.items ≡ [] = search rules in
-    let e : c.deref.result.now ≡ c.push_terms.new.items.items = search rules in
-    let s = pushes-sum (forms c.args.rules.now) c.args.tables.now c.empty_trace-trace.result c.push_terms.new.trace c.new-items.result.items c.push_terms.new.items.items (spread (mono_less c.args.tables.now) c.args.g.now) none c.in_ok-push_terms.ensures in
-    let a = pushes-residues (forms c.args.rules.now) c.args.tables.now c.empty_trace-trace.result c.push_terms.new.trace c.new-items.result.items c.push_terms.new.items.items (spread (mono_less c.args.tables.now) c.args.g.now) none c.in_ok-push_terms.ensures in
-    let z = answered-sum (forms c.args.rules.now) c.args.tables.now right c.args.g.now c.requires.zero (lines_of c.push_terms.new.trace) c.push_terms.new.items.items s in
-    let d = c.in_ok-line.ensures.derives (forms c.args.rules.now) c.args.tables.now c.args.g.now c.in_ok-push_terms.ensures.trace
-    (subst (λ (xs : List (ℕ × ℕ)). All (λ (x : ℕ × ℕ). x.0 < c.args.tables.now.p) xs) (sym e) a)
-    (subst (λ (xs : List (ℕ × ℕ)). IsSumOf c.args.tables.now.p (forms c.args.rules.now) (lines_of c.push_terms.new.trace) xs c.args.g.now) (sym e) z) in
-    c.ended.ensures (forms c.args.rules.now) c.args.tables.now c.push_terms.new.trace c.args.g.now (rules-few c.args.rules.now c.args.tables.now (forms-over c.args.rules.now c.args.tables.now c.requires.rules c.requires.right)) d
+    let fs = forms c.args.rules.now in
+    let t = c.args.tables.now in
+    let p = c.in_ok-add_monomials.ensures in
+    let s = pushes-sum fs t c.new-trace.result c.add_monomials.new.self c.new-sum.result.items.items c.add_monomials.new.sum.items.items (spread (mono_less t) c.args.g.now) c.new-sum.ensures p in
+    let a = pushes-residues fs t c.new-trace.result c.add_monomials.new.self c.new-sum.result.items.items c.add_monomials.new.sum.items.items (spread (mono_less t) c.args.g.now) c.new-sum.ensures p in
+    let z = answered-sum (rules_view c.args.rules.now) t c.requires.right c.args.g.now c.requires.zero (lines_of c.add_monomials.new.self) c.add_monomials.new.sum.items.items s in
+    c.into_lines.ensures fs t c.add_monomials.new.self c.args.g.now (forms-few c.args.rules.now c.requires.rules) (c.in_ok-cited.ensures.derives fs t c.args.g.now p.trace a z)

@@ -1,19 +1,11 @@
 use Rattle.alb_mono.specs.Mono.{tree}
 use Rattle.alb_poly.specs.Rules.{forms}
-use Rattle.alb_table.specs.RightFor.{rules_view}
 use Rattle.alb_trace.specs.Trace.{mono_less}
-use Rattle.alb_trace.proofs.Ends.{rules-few}
-use Rattle.alb_trace.proofs.Premises.{forms-over, right-over}
+use Rattle.alb_trace.proofs.Ends.{forms-few}
 use Rattle.alb_trace.proofs.answers.derive_monomial.Goals as goal
 
-pub monomial-requires-clause-trace : goal.monomial-requires-clause-trace
-monomial-requires-clause-trace c = c.empty_trace-trace.ensures.trace (forms c.args.rules.now)
-
-pub monomial-requires-clause-rules : goal.monomial-requires-clause-rules
-monomial-requires-clause-rules c = forms-over c.args.rules.now c.args.tables.now c.requires.rules c.requires.right
-
-pub monomial-requires-clause-right : goal.monomial-requires-clause-right
-monomial-requires-clause-right c = right-over (rules_view c.args.rules.now) c.args.tables.now c.requires.right
+pub monomial_line-requires-clause-trace : goal.monomial_line-requires-clause-trace
+monomial_line-requires-clause-trace c = c.new-trace.ensures (forms c.args.rules.now) c.args.tables.now c.requires.right.table
 
 pub returns : goal.returns
-returns c = c.ended.ensures (forms c.args.rules.now) c.args.tables.now c.empty_trace-trace.result (mono_less c.args.tables.now (tree c.args.m.now)) (rules-few c.args.rules.now c.args.tables.now (forms-over c.args.rules.now c.args.tables.now c.requires.rules c.requires.right)) c.in_ok-line.ensures
+returns c = c.into_lines.ensures (forms c.args.rules.now) c.args.tables.now c.new-trace.result (mono_less c.args.tables.now (tree c.args.m.now)) (forms-few c.args.rules.now c.requires.rules) c.in_ok-cited.ensures

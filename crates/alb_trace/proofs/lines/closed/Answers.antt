@@ -1,7 +1,0 @@
-use Rattle.alb_trace.proofs.TraceLemmas.{next-sum}
-use Rattle.alb_trace.proofs.lines.closed.Goals as goal
-
-pub returns : goal.returns
-returns c = record {
-  derives = λ fs t f h a s. let x = next-sum fs t c.args.trace.now h c.args.part.items f s c.requires.few in c.in_ok-line.ensures.derives fs t f h a x.fine x.line;
-}
