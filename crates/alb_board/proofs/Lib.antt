@@ -1,0 +1,10 @@
+pub mod Seats
+pub mod Queue
+pub mod Shots
+pub mod RuleLemmas
+pub mod Draws
+pub mod Leaves
+pub mod Raises
+pub mod Splits
+pub mod CallLemmas
+pub mod EventLemmas
