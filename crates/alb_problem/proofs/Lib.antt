@@ -13,6 +13,7 @@ pub mod Low
 pub mod OneVariable
 pub mod Polarize
 pub mod Satisfied
+pub mod SoundLemmas
 pub mod Substitution
 pub mod TextbookLemmas
 pub mod ToText

@@ -5,3 +5,4 @@ pub mod Generators
 pub mod Builder
 pub mod Refusals
 pub mod Problem
+pub mod Sound

@@ -10,7 +10,7 @@ use Rattle.alb_syntax.proofs.Found.{denoted-found}
 use Rattle.alb_syntax.proofs.Known.{denoted-known}
 use Rattle.alb_poly.specs.Poly.{Poly}
 use Rattle.alb_script.specs.Words.{word_named, belongs, is_early, is_late}
-use Rattle.alb_script.specs.Asked.{Asked, Blank, Field, Generators, Identity, Build, Polynomial, Prove, Dimensions, Table, Claim, Await, Quit, ◌>>=◌, dense, or_syntax, tokens_at, poly_at, when_none, number_at, degree_at, asked_by, known, timely, word_of, word_length, asked_from, asked_at, asked}
+use Rattle.alb_script.specs.Asked.{Asked, Blank, Field, Generators, Identity, Build, Polynomial, Prove, Dimensions, Table, Claim, Await, Quit, ◌>>=◌, dense, or_syntax, tokens_at, poly_at, when_none, number_at, degree_at, asked_by, of_form, or_unknown, timely, word_of, word_length, word_at, word_from, word_start, command_word, asked_at, asked}
 use Rattle.alb_script.specs.declared.error.CommandError.{CommandError}
 use Rattle.alb_script.specs.declared.error.CommandError.TheVariants as errors
 use Rattle.alb_script.specs.declared.form.Form.{Form}
@@ -54,13 +54,13 @@ timely-stands form built w v of_form h =
     let is : w ≡ v = same_word w v (Ok w) (Ok v) refl refl b.1 in
     subst (Stands form built) is (record { of_form = of_form; early = not_early built (is_early w) a.0; late = not_late built (is_late w) b.0 })
 
-known_stands : (form : Form) (built b : Bool) (w v : Word) → belongs form w ≡ b → ((if b then Ok w else Err errors.Unknown) >>= timely built) ≡ Ok v → Stands form built v
-known_stands form built true w v is h = timely-stands form built w v is h
-known_stands form built false w v is h = absurd (cc)
+word_stands : (form : Form) (built b : Bool) (w v : Word) → belongs form w ≡ b → (or_unknown (if b then Some w else None) >>= timely built) ≡ Ok v → Stands form built v
+word_stands form built true w v is h = timely-stands form built w v is h
+word_stands form built false w v is h = absurd (cc)
 
-word-stands : (form : Form) (built : Bool) (o : Option Word) (v : Word) → (known form o >>= timely built) ≡ Ok v → Stands form built v
+word-stands : (form : Form) (built : Bool) (o : Option Word) (v : Word) → (or_unknown (of_form form o) >>= timely built) ≡ Ok v → Stands form built v
 word-stands form built None v h = absurd (cc)
-word-stands form built (Some w) v h = known_stands form built (belongs form w) w v refl h
+word-stands form built (Some w) v h = word_stands form built (belongs form w) w v refl h
 
 -- ---- what a word asks for
 
@@ -107,29 +107,30 @@ by-timely form built total p letters word.Await at line a s h =
 by-timely form built total p letters word.Quit at line a s h =
     subst (IsTimely form built) (is_alone Quit a at (dense (drop at line)) h) (record { of_form = tt; stands = tt })
 
-from-timely : (form : Form) (built : Bool) (total p : ℕ) (letters : List ℕ) (start : ℕ) (line : List ℕ) (a : Asked) → asked_from form built total p letters start line ≡ Ok a → IsTimely form built a
-unfolding asked_from word_of
-from-timely form built total p letters start line a h =
-    let n = word_length (drop start line) in
-    let g = got (word_of form built (take n (drop start line))) (λ w. asked_by total p letters w (start + n) line) a h in
-    by-timely form built total p letters g.0 (start + n) line a (word-stands form built (word_named (take n (drop start line))) g.0 g.1) g.2
+-- the word that a line begins with stands there
+line-stands : (form : Form) (built : Bool) (line : List ℕ) (o : Option ℕ) (v : Word) → word_of built (word_from form line o) ≡ Ok v → Stands form built v
+unfolding word_of
+line-stands form built line None v h = absurd (cc)
+line-stands form built line (Some start) v h = word-stands form built (word_named (word_at start line)) v h
+
+command-stands : (form : Form) (built : Bool) (line : List ℕ) (v : Word) → word_of built (command_word form line) ≡ Ok v → Stands form built v
+unfolding command_word
+command-stands form built line v h = line-stands form built line (word_start line) v h
 
 blank-timely : (form : Form) (built : Bool) → IsTimely form built Blank
 blank-timely form built = record { of_form = tt; stands = tt }
 
-comment-timely : (b : Bool) (form : Form) (built : Bool) (o : Result Asked CommandError) (a : Asked) → (o ≡ Ok a → IsTimely form built a) → (if b then Ok Blank else o) ≡ Ok a → IsTimely form built a
-comment-timely true form built o a k h = let e : Blank ≡ a = cc in subst (IsTimely form built) e (blank-timely form built)
-comment-timely false form built o a k h = k h
-
 at-timely : (form : Form) (built : Bool) (total p : ℕ) (letters : List ℕ) (o : Option ℕ) (line : List ℕ) (a : Asked) → asked_at form built total p letters o line ≡ Ok a → IsTimely form built a
 at-timely form built total p letters None line a h = let e : Blank ≡ a = cc in subst (IsTimely form built) e (blank-timely form built)
 at-timely form built total p letters (Some start) line a h =
-    comment-timely (slice_index line start == 35) form built (asked_from form built total p letters start line) a (from-timely form built total p letters start line a) h
+    let at = start + word_length (drop start line) in
+    let g = got (word_of built (command_word form line)) (λ w. asked_by total p letters w at line) a h in
+    by-timely form built total p letters g.0 at line a (command-stands form built line g.0 g.1) g.2
 
 -- a command stands where its word may stand
 pub asked-timely : (form : Form) (built : Bool) (total p : ℕ) (letters line : List ℕ) (a : Asked) → asked form built total p letters line ≡ Ok a → IsTimely form built a
 unfolding asked
-asked-timely form built total p letters line a h = at-timely form built total p letters (dense line) line a h
+asked-timely form built total p letters line a h = at-timely form built total p letters (word_start line) line a h
 
 -- ---- identities
 
@@ -187,26 +188,17 @@ by-known total p letters word.Await at line a h =
     subst IsKnown e tt
 by-known total p letters word.Quit at line a h = subst IsKnown (is_alone Quit a at (dense (drop at line)) h) tt
 
-from-known : (form : Form) (built : Bool) (total p : ℕ) (letters : List ℕ) (start : ℕ) (line : List ℕ) (a : Asked) → asked_from form built total p letters start line ≡ Ok a → IsKnown a
-unfolding asked_from
-from-known form built total p letters start line a h =
-    let n = word_length (drop start line) in
-    let g = got (word_of form built (take n (drop start line))) (λ w. asked_by total p letters w (start + n) line) a h in
-    by-known total p letters g.0 (start + n) line a g.2
-
-comment-known : (b : Bool) (o : Result Asked CommandError) (a : Asked) → (o ≡ Ok a → IsKnown a) → (if b then Ok Blank else o) ≡ Ok a → IsKnown a
-comment-known true o a k h = let e : Blank ≡ a = cc in subst IsKnown e tt
-comment-known false o a k h = k h
-
 at-known : (form : Form) (built : Bool) (total p : ℕ) (letters : List ℕ) (o : Option ℕ) (line : List ℕ) (a : Asked) → asked_at form built total p letters o line ≡ Ok a → IsKnown a
 at-known form built total p letters None line a h = let e : Blank ≡ a = cc in subst IsKnown e tt
 at-known form built total p letters (Some start) line a h =
-    comment-known (slice_index line start == 35) (asked_from form built total p letters start line) a (from-known form built total p letters start line a) h
+    let at = start + word_length (drop start line) in
+    let g = got (word_of built (command_word form line)) (λ w. asked_by total p letters w at line) a h in
+    by-known total p letters g.0 at line a g.2
 
 -- an identity is over the letters a to z
 pub asked-known : (form : Form) (built : Bool) (total p : ℕ) (letters line : List ℕ) (a : Asked) → asked form built total p letters line ≡ Ok a → IsKnown a
 unfolding asked
-asked-known form built total p letters line a h = at-known form built total p letters (dense line) line a h
+asked-known form built total p letters line a h = at-known form built total p letters (word_start line) line a h
 
 -- ---- claims
 

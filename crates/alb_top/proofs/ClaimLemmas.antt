@@ -1,17 +1,15 @@
--- How a claim is answered behind its block.
-use Rattle.std.proofs.Common.{◌≡◌, ℕ, Bool, true, false, List, [], ◌∷◌, ◌++◌, map, Option, None, Result, Ok, Err, refl, sym, ap, ◌∙◌, subst}
+-- How a claim is answered after its block.
+use Rattle.std.proofs.Common.{◌≡◌, ℕ, Bool, true, false, List, [], ◌∷◌, ◌++◌, Option, None, Result, Ok, Err, refl, sym, ap, ◌∙◌, subst}
 use Rattle.std.specs.Prelude.{if◌then◌else◌}
 use Rattle.alb_poly.specs.Poly.{Poly}
-use Rattle.alb_poly.specs.Instance as instances
 use Rattle.alb_poly.specs.Rules.{forms}
 use Rattle.alb_io.specs.Reader.{Reader}
 use Rattle.alb_io.specs.declared.step.LineStep.TheVariants as step
-use Rattle.alb_linear.specs.declared.identity.Identity.{Identity}
-use Rattle.alb_problem.specs.Builder.{linear_form}
 use Rattle.alb_problem.specs.Problem.{problem, IsAccepted}
+use Rattle.alb_problem.specs.Sound.{forms_of}
 use Rattle.alb_problem.specs.declared.problem.Problem.{Problem}
+use Rattle.alb_problem.proofs.SoundLemmas.{forms-rules}
 use Rattle.alb_script.specs.declared.form.Form.{Form}
-use Rattle.alb_script.specs.declared.form.Form.TheVariants as form
 use Rattle.alb_evidence.specs.Block as block
 use Rattle.alb_evidence.specs.Block.{evidence_of}
 use Rattle.alb_evidence.specs.Reads.{ReadsBlock, ReadsAs, Breaks}
@@ -19,42 +17,37 @@ use Rattle.alb_evidence.specs.Views.{evidence}
 use Rattle.alb_evidence.specs.declared.evidence.Evidence.{Evidence}
 use Rattle.alb_evidence.specs.declared.error.EvidenceError.{EvidenceError}
 use Rattle.alb_evidence.specs.declared.error.EvidenceError.TheVariants as given
-use Rattle.alb_top.specs.Verdict.{IsVerdict}
-use Rattle.alb_top.specs.Script as script
-use Rattle.alb_top.specs.Script.{State, NoBlock, Claimed, OfBlock, EndsBlock, Judges, tell, forms_of}
+use Rattle.alb_judge.specs.Verdict.{IsVerdict}
+use Rattle.alb_judge.specs.Views as views
+use Rattle.alb_judge.specs.Views.{judgement}
+use Rattle.alb_judge.specs.declared.judging.Judged.TheVariants as judged
+use Rattle.alb_judge.specs.declared.verdict.Verdict.{Verdict}
+use Rattle.alb_judge.proofs.VerdictLemmas.{evidence-read, verdict-justified}
+use Rattle.alb_top.specs.Response as responses
+use Rattle.alb_top.specs.Script.{State, NoBlock, Claimed, OfBlock, EndsBlock, Judges, respond}
 use Rattle.alb_top.specs.Sound.{IsSound}
-use Rattle.alb_top.specs.View as views
-use Rattle.alb_top.specs.View.{state, judgement, said, is_built, table_of, IsStage, IsScript}
-use Rattle.alb_top.specs.Going.{TakesTurn, Gets, Stops, claimed}
-use Rattle.alb_top.specs.declared.judge.Judged.TheVariants as judged
-use Rattle.alb_top.specs.declared.reply.Reply.TheVariants as reply
-use Rattle.alb_top.specs.declared.reply.Verdict.{Verdict}
+use Rattle.alb_top.specs.View.{state, state_at, IsStage, IsScript}
+use Rattle.alb_top.specs.Turns.{TakesTurn, Gets, Stops, claimed}
+use Rattle.alb_top.specs.declared.mode.Mode.{Mode}
+use Rattle.alb_top.specs.declared.mode.Mode.TheVariants as mode
+use Rattle.alb_top.specs.declared.response.Response.TheVariants as response
 use Rattle.alb_top.specs.declared.script.Script.{Script}
 use Rattle.alb_top.specs.declared.script.Stage.{Stage}
 use Rattle.alb_top.specs.declared.script.Stage.TheVariants as stage
 use Rattle.alb_top.specs.declared.turn.Taken.{Taken}
 use Rattle.alb_top.specs.declared.turn.Taken.TheVariants as took
-use Rattle.alb_top.proofs.SoundLemmas.{verdict-justified, evidence-read}
 use Rattle.alb_top.proofs.TurnLemmas.{lines-more, inside-claimed, block-taken, block-broken}
 
 -- claims about this problem may be made
-abbrev pub asking : Problem → Bool → State
-asking q clean = record { form = form.Check; problem = problem q; built = true; table = None; block = NoBlock; closed = false; clean = clean }
-
-map_poly : (g : Poly → instances.Form) (fs : List Identity) → map g (map (λ (f : Identity). f.poly) fs) ≡ map (λ (f : Identity). g f.poly) fs
-map_poly g [] = refl
-map_poly g (f ∷ fs) = ap (λ l. g f.poly ∷ l) (map_poly g fs)
-
--- the forms are those of the rules
-pub forms-rules : (q : Problem) → IsAccepted q → forms q.rules ≡ forms_of (problem q)
-forms-rules q a = a.stand ∙ sym (map_poly (linear_form q.rules.field) q.identities.items)
+abbrev pub claiming : Form → Problem → Bool → State
+claiming f q clean = record { mode = mode.Check; form = f; problem = problem q; built = true; shot = None; block = NoBlock; closed = false; clean = clean }
 
 -- the verdict on what was read stands in the transcript
-judges : (q : Problem) (clean : Bool) (f : Poly) (lines : List (List ℕ)) (has_end : Bool) (seen : Result block.Evidence block.Fault) (v : Verdict) (next : Script)
-    → IsAccepted q → IsSound (asking q clean) → evidence_of q.rules.field q.letters lines has_end ≡ seen → IsVerdict q.rules.field q.rules.target (forms q.rules) f seen (judgement v)
-    → (script.Judged (judgement v), state next) ≡ tell (script.Judged (judgement v)) (asking q clean)
-    → Judges (record (asking q clean) { block = Claimed f lines }) f (evidence_of q.rules.field q.letters lines has_end) (script.Judged (judgement v)) (state next)
-judges q clean f lines has_end seen v next a sound read is told =
+judges : (m : Form) (q : Problem) (clean : Bool) (f : Poly) (lines : List (List ℕ)) (has_end : Bool) (seen : Result block.Evidence block.Fault) (v : Verdict) (next : Script)
+    → IsAccepted q → IsSound (claiming m q clean) → evidence_of q.rules.field q.letters lines has_end ≡ seen → IsVerdict q.rules.field q.rules.target (forms q.rules) f seen (judgement v)
+    → (responses.Judged (judgement v), state next) ≡ respond (responses.Judged (judgement v)) (claiming m q clean)
+    → Judges (record (claiming m q clean) { block = Claimed f lines }) f (evidence_of q.rules.field q.letters lines has_end) (responses.Judged (judgement v)) (state next)
+judges m q clean f lines has_end seen v next a sound read is told =
     let stands : IsVerdict q.rules.field q.rules.target (forms_of (problem q)) f (evidence_of q.rules.field q.letters lines has_end) (judgement v) =
     subst (λ fs. IsVerdict q.rules.field q.rules.target fs f (evidence_of q.rules.field q.letters lines has_end) (judgement v)) (forms-rules q a)
     (subst (λ (r : Result block.Evidence block.Fault). IsVerdict q.rules.field q.rules.target (forms q.rules) f r (judgement v)) (sym read) is) in
@@ -65,41 +58,41 @@ judges q clean f lines has_end seen v next a sound read is told =
       justified = verdict-justified (problem q) f (evidence_of q.rules.field q.letters lines has_end) (judgement v) sound.problem (sound.accepted refl) (evidence-read (problem q) q.letters lines has_end a.prime a.named) stands;
     }
 
-judged-taken : (old new : Reader) (q : Problem) (clean : Bool) (f : Poly) (now now' : Option (List ℕ)) (lines : List (List ℕ)) (has_end : Bool) (seen : Result block.Evidence block.Fault)
-    (v : Verdict) (next : Script) (ended : Bool) (taken : Taken) → IsAccepted q → IsSound (asking q clean) → ReadsBlock has_end lines old new now now'
+judged-taken : (old new : Reader) (m : Form) (q : Problem) (clean : Bool) (f : Poly) (now now' : Option (List ℕ)) (lines : List (List ℕ)) (has_end : Bool) (seen : Result block.Evidence block.Fault)
+    (v : Verdict) (next : Script) (ended : Bool) (taken : Taken) → IsAccepted q → IsSound (claiming m q clean) → ReadsBlock has_end lines old new now now'
     → evidence_of q.rules.field q.letters lines has_end ≡ seen → IsVerdict q.rules.field q.rules.target (forms q.rules) f seen (judgement v)
-    → (script.Judged (judgement v), state next) ≡ tell (script.Judged (judgement v)) (asking q clean)
-    → ended ≡ new.ended → taken ≡ (if ended then took.Last (reply.Judged v) next else took.Reply (reply.Judged v) next) → TakesTurn taken old new (claimed f (asking q clean)) now now'
-judged-taken old new q clean f now now' lines has_end seen v next ended taken a sound r read is told e was =
-    let mid : State = record (asking q clean) { block = Claimed f lines } in
-    let j : Judges mid f (evidence_of q.rules.field q.letters lines has_end) (script.Judged (judgement v)) (state next) = judges q clean f lines has_end seen v next a sound read is told in
-    block-taken old new (claimed f (asking q clean)) mid now now' lines has_end ended (reply.Judged v) next taken r (inside-claimed (asking q clean) f [] lines refl r.no_end) refl
-    (λ line k h. subst (λ b. OfBlock b mid line (script.Judged (judgement v)) (state next)) (sym k)
-    (subst (λ b. Judges mid f (evidence_of q.rules.field q.letters lines b) (script.Judged (judgement v)) (state next)) h j))
-    (λ h. subst (λ b. Judges mid f (evidence_of q.rules.field q.letters lines b) (script.Judged (judgement v)) (state next)) h j) e was
+    → (responses.Judged (judgement v), state next) ≡ respond (responses.Judged (judgement v)) (claiming m q clean)
+    → ended ≡ new.ended → taken ≡ (if ended then took.Last (response.Judged v) next else took.Response (response.Judged v) next) → TakesTurn taken old new (claimed f (claiming m q clean)) now now'
+judged-taken old new m q clean f now now' lines has_end seen v next ended taken a sound r read is told e was =
+    let mid : State = record (claiming m q clean) { block = Claimed f lines } in
+    let j : Judges mid f (evidence_of q.rules.field q.letters lines has_end) (responses.Judged (judgement v)) (state next) = judges m q clean f lines has_end seen v next a sound read is told in
+    block-taken old new (claimed f (claiming m q clean)) mid now now' lines has_end ended (response.Judged v) next taken r (inside-claimed (claiming m q clean) f [] lines refl r.no_end) refl
+    (λ line k h. subst (λ b. OfBlock b mid line (responses.Judged (judgement v)) (state next)) (sym k)
+    (subst (λ b. Judges mid f (evidence_of q.rules.field q.letters lines b) (responses.Judged (judgement v)) (state next)) h j))
+    (λ h. subst (λ b. Judges mid f (evidence_of q.rules.field q.letters lines b) (responses.Judged (judgement v)) (state next)) h j) e was
 
-claim_taken : (old new : Reader) (q : Problem) (clean : Bool) (f : Poly) (now now' : Option (List ℕ)) (read : Result Evidence EvidenceError)
-    (v : Verdict) (next : Script) (ended : Bool) (taken : Taken) → IsAccepted q → IsSound (asking q clean) → ReadsAs read q.rules.field q.letters old new now now'
-    → views.Judges (judged.Verdict v) q f read → (script.Judged (judgement v), state next) ≡ tell (script.Judged (judgement v)) (asking q clean)
-    → ended ≡ new.ended → taken ≡ (if ended then took.Last (reply.Judged v) next else took.Reply (reply.Judged v) next) → TakesTurn taken old new (claimed f (asking q clean)) now now'
-claim_taken old new q clean f now now' (Ok x) v next ended taken a sound r j told e was =
-    judged-taken old new q clean f now now' r.0 true (Ok (evidence x)) v next ended taken a sound r.1 r.2 j told e was
-claim_taken old new q clean f now now' (Err (given.BadLine k)) v next ended taken a sound r j told e was =
-    judged-taken old new q clean f now now' r.0 r.1 (Err (block.BadLine k)) v next ended taken a sound r.2 r.3 j told e was
-claim_taken old new q clean f now now' (Err (given.BadNumber k)) v next ended taken a sound r j told e was =
-    judged-taken old new q clean f now now' r.0 r.1 (Err (block.BadNumber k)) v next ended taken a sound r.2 r.3 j told e was
-claim_taken old new q clean f now now' (Err given.ReadFault) v next ended taken a sound r j told e was = absurd j
-claim_taken old new q clean f now now' (Err given.InputLimit) v next ended taken a sound r j told e was = absurd j
-claim_taken old new q clean f now now' (Err given.NoMemory) v next ended taken a sound r j told e was = absurd j
+claim_taken : (old new : Reader) (m : Form) (q : Problem) (clean : Bool) (f : Poly) (now now' : Option (List ℕ)) (read : Result Evidence EvidenceError)
+    (v : Verdict) (next : Script) (ended : Bool) (taken : Taken) → IsAccepted q → IsSound (claiming m q clean) → ReadsAs read q.rules.field q.letters old new now now'
+    → views.Judges (judged.Verdict v) q f read → (responses.Judged (judgement v), state next) ≡ respond (responses.Judged (judgement v)) (claiming m q clean)
+    → ended ≡ new.ended → taken ≡ (if ended then took.Last (response.Judged v) next else took.Response (response.Judged v) next) → TakesTurn taken old new (claimed f (claiming m q clean)) now now'
+claim_taken old new m q clean f now now' (Ok x) v next ended taken a sound r j told e was =
+    judged-taken old new m q clean f now now' r.0 true (Ok (evidence x)) v next ended taken a sound r.1 r.2 j told e was
+claim_taken old new m q clean f now now' (Err (given.BadLine k)) v next ended taken a sound r j told e was =
+    judged-taken old new m q clean f now now' r.0 r.1 (Err (block.BadLine k)) v next ended taken a sound r.2 r.3 j told e was
+claim_taken old new m q clean f now now' (Err (given.BadNumber k)) v next ended taken a sound r j told e was =
+    judged-taken old new m q clean f now now' r.0 r.1 (Err (block.BadNumber k)) v next ended taken a sound r.2 r.3 j told e was
+claim_taken old new m q clean f now now' (Err given.ReadFault) v next ended taken a sound r j told e was = absurd j
+claim_taken old new m q clean f now now' (Err given.InputLimit) v next ended taken a sound r j told e was = absurd j
+claim_taken old new m q clean f now now' (Err given.NoMemory) v next ended taken a sound r j told e was = absurd j
 
 -- a claim was judged
 pub claim-taken : (old new : Reader) (s : State) (q : Problem) (f : Poly) (now now' : Option (List ℕ)) (read : Result Evidence EvidenceError)
-    (v : Verdict) (next : Script) (ended : Bool) (taken : Taken) → s ≡ asking q s.clean → IsAccepted q → IsSound s → ReadsAs read q.rules.field q.letters old new now now'
-    → views.Judges (judged.Verdict v) q f read → (script.Judged (judgement v), state next) ≡ tell (script.Judged (judgement v)) s
-    → ended ≡ new.ended → taken ≡ (if ended then took.Last (reply.Judged v) next else took.Reply (reply.Judged v) next) → TakesTurn taken old new (claimed f s) now now'
+    (v : Verdict) (next : Script) (ended : Bool) (taken : Taken) → s ≡ claiming s.form q s.clean → IsAccepted q → IsSound s → ReadsAs read q.rules.field q.letters old new now now'
+    → views.Judges (judged.Verdict v) q f read → (responses.Judged (judgement v), state next) ≡ respond (responses.Judged (judgement v)) s
+    → ended ≡ new.ended → taken ≡ (if ended then took.Last (response.Judged v) next else took.Response (response.Judged v) next) → TakesTurn taken old new (claimed f s) now now'
 claim-taken old new s q f now now' read v next ended taken is a sound r j told e was =
     subst (λ (t : State). TakesTurn taken old new (claimed f t) now now') (sym is)
-    (claim_taken old new q s.clean f now now' read v next ended taken a (subst (λ (t : State). IsSound t) is sound) r j (told ∙ ap (tell (script.Judged (judgement v))) is) e was)
+    (claim_taken old new s.form q s.clean f now now' read v next ended taken a (subst (λ (t : State). IsSound t) is sound) r j (told ∙ ap (respond (responses.Judged (judgement v))) is) e was)
 
 -- a claim's block broke off
 pub claim-read_fault : (old new : Reader) (s : State) (p : ℕ) (letters : List ℕ) (f : Poly) (now now' : Option (List ℕ)) (read : Result Evidence EvidenceError) → s.closed ≡ false
@@ -127,12 +120,11 @@ claim-gets old new q f now now' (Err e) r j =
 
 -- ---- scripts
 
-pub asking-stage : (s : Script) (q : Problem) → s.stage ≡ stage.Claiming q → s.form ≡ form.Check → (state s).closed ≡ false → state s ≡ asking q (state s).clean
-asking-stage s q is check going =
-    ap (λ (t : Stage). record { form = s.form; problem = said t; built = is_built t; table = table_of t; block = NoBlock; closed = s.closed; clean = s.clean }) is
-    ∙ ap (λ (f : Form). record { form = f; problem = problem q; built = true; table = None; block = NoBlock; closed = s.closed; clean = s.clean }) check
-    ∙ ap (λ (b : Bool). record { form = form.Check; problem = problem q; built = true; table = None; block = NoBlock; closed = b; clean = s.clean }) going
+pub claiming-stage : (s : Script) (q : Problem) → s.stage ≡ stage.Claiming q → s.mode ≡ mode.Check → (state s).closed ≡ false → state s ≡ claiming s.form q (state s).clean
+claiming-stage s q is check going =
+    ap (λ (t : Stage). state_at s.mode s.form t s.closed s.clean) is ∙ ap (λ (m : Mode). state_at m s.form (stage.Claiming q) s.closed s.clean) check
+    ∙ ap (λ (b : Bool). state_at mode.Check s.form (stage.Claiming q) b s.clean) going
 
 pub accepted-stage : (s : Script) (q : Problem) → s.stage ≡ stage.Claiming q → IsScript s → IsAccepted q
 accepted-stage s q is h =
-    let t : IsStage s.form (stage.Claiming q) = subst (λ (t : Stage). IsStage s.form t) is h.stage in t.1
+    let t : IsStage s.mode (stage.Claiming q) = subst (λ (t : Stage). IsStage s.mode t) is h.stage in t.1

@@ -16,43 +16,45 @@ use Rattle.alb_problem.specs.Refusals as refusals
 use Rattle.alb_problem.specs.Refusals.{Tells, AnswersOrNoMemory, field_refusal, bad_generators, generators_refusal, fault_refusal, identity_refusal, finish_refusal}
 use Rattle.alb_problem.specs.declared.error.ProblemError.{ProblemError}
 use Rattle.alb_problem.specs.declared.error.ProblemError.TheVariants as error
-use Rattle.alb_script.specs.Refusals.{stated_text, told_by_problem, or_nothing, is_problem_memory, IsProblemOverAlphabet}
+use Rattle.alb_script.specs.Refusals.{told_by_problem, is_problem_memory, IsProblemOverAlphabet}
 use Rattle.alb_script.specs.declared.refusal.Refusal.TheVariants as refusal
-use Rattle.alb_top.specs.Script.{Reply, RefusedLine, unless}
-use Rattle.alb_top.specs.View.{answer, CanBeWritten, IsAnswer, of_problem}
-use Rattle.alb_top.specs.declared.reply.Reply as Rust
-use Rattle.alb_top.specs.declared.reply.Reply.TheVariants as reply
+use Rattle.alb_top.specs.Response.{Response, Refused, OfProblem}
+use Rattle.alb_top.specs.Script.{unless}
+use Rattle.alb_top.specs.View.{response_of, by_problem, CanBeWritten, IsWritten, of_problem}
+use Rattle.alb_top.specs.declared.response.Response as Rust
+use Rattle.alb_top.specs.declared.response.Response.TheVariants as response
 
 -- ---- what an error tells
 
--- the refusal that an error tells, with its text
+-- the refusal that an error tells
 pub record IsTold (e : ProblemError) (found : Option refusals.Refusal) : Type 0 where
   pub refusal : refusals.Refusal
   pub found_is : found ≡ Some refusal
-  pub text : or_nothing (told_by_problem e) ≡ stated_text refusal
+  pub refuses : by_problem (told_by_problem e) ≡ OfProblem refusal
   pub memory : is_problem_memory e ≡ false
 
 pub told : (e : ProblemError) (found : Option refusals.Refusal) → Tells e found → IsTold e found
-told error.NotInTable found h = record { refusal = refusals.NotInTable; found_is = h; text = refl; memory = refl }
-told error.FieldAfterIdentity found h = record { refusal = refusals.FieldAfterIdentity; found_is = h; text = refl; memory = refl }
-told error.GeneratorsTwice found h = record { refusal = refusals.GeneratorsTwice; found_is = h; text = refl; memory = refl }
-told (error.BadGenerators place) found h = record { refusal = refusals.BadGenerators place; found_is = h; text = refl; memory = refl }
-told error.TooManyIdentities found h = record { refusal = refusals.TooManyIdentities; found_is = h; text = refl; memory = refl }
-told (error.Identity linear.Zero) found h = record { refusal = refusals.NoIdentity identity.Zero; found_is = h; text = refl; memory = refl }
-told (error.Identity (linear.NotHomogeneous m)) found h = record { refusal = refusals.NoIdentity (identity.NotHomogeneous (tree m)); found_is = h; text = refl; memory = refl }
-told (error.Identity linear.DegreeOne) found h = record { refusal = refusals.NoIdentity identity.DegreeOne; found_is = h; text = refl; memory = refl }
-told (error.Identity linear.DegreeOver8) found h = record { refusal = refusals.NoIdentity identity.DegreeOver8; found_is = h; text = refl; memory = refl }
-told (error.Identity (linear.TooManyLinear n)) found h = record { refusal = refusals.TooManyLinear n; found_is = h; text = refl; memory = refl }
+told error.NotInTable found h = record { refusal = refusals.NotInTable; found_is = h; refuses = refl; memory = refl }
+told error.FieldAfterIdentity found h = record { refusal = refusals.FieldAfterIdentity; found_is = h; refuses = refl; memory = refl }
+told error.GeneratorsTwice found h = record { refusal = refusals.GeneratorsTwice; found_is = h; refuses = refl; memory = refl }
+told (error.BadGenerators place) found h = record { refusal = refusals.BadGenerators place; found_is = h; refuses = refl; memory = refl }
+told error.TooManyIdentities found h = record { refusal = refusals.TooManyIdentities; found_is = h; refuses = refl; memory = refl }
+told (error.Identity linear.Zero) found h = record { refusal = refusals.NoIdentity identity.Zero; found_is = h; refuses = refl; memory = refl }
+told (error.Identity (linear.NotHomogeneous m)) found h = record { refusal = refusals.NoIdentity (identity.NotHomogeneous (tree m)); found_is = h; refuses = refl; memory = refl }
+told (error.Identity linear.DegreeOne) found h = record { refusal = refusals.NoIdentity identity.DegreeOne; found_is = h; refuses = refl; memory = refl }
+told (error.Identity linear.DegreeOver8) found h = record { refusal = refusals.NoIdentity identity.DegreeOver8; found_is = h; refuses = refl; memory = refl }
+told (error.Identity (linear.TooManyLinear n)) found h = record { refusal = refusals.TooManyLinear n; found_is = h; refuses = refl; memory = refl }
 told (error.Identity linear.NoMemory) found h = absurd h
-told error.NoGenerators found h = record { refusal = refusals.NoGenerators; found_is = h; text = refl; memory = refl }
-told error.FieldTooSmall found h = record { refusal = refusals.FieldTooSmall; found_is = h; text = refl; memory = refl }
+told error.NoGenerators found h = record { refusal = refusals.NoGenerators; found_is = h; refuses = refl; memory = refl }
+told error.FieldTooSmall found h = record { refusal = refusals.FieldTooSmall; found_is = h; refuses = refl; memory = refl }
 told error.NoMemory found h = absurd h
 
--- the answer to what is refused
-pub unless-told : (e : ProblemError) (found : Option refusals.Refusal) (reply : Reply) (new old : Builder) → Tells e found → (RefusedLine (or_nothing (told_by_problem e)), old) ≡ unless found reply new old
-unless-told e found reply new old h =
+-- the response to what is refused
+pub unless-told : (e : ProblemError) (found : Option refusals.Refusal) (taken : Response) (new old : Builder) → Tells e found
+    → (Refused (by_problem (told_by_problem e)), old) ≡ unless found taken new old
+unless-told e found taken new old h =
     let t = told e found h in
-    ap (λ text. (RefusedLine text, old)) t.text ∙ sym (ap (λ o. unless o reply new old) t.found_is)
+    ap (λ r. (Refused r, old)) t.refuses ∙ sym (ap (λ o. unless o taken new old) t.found_is)
 
 -- ---- terms are over the letters a to z
 
@@ -156,15 +158,15 @@ identity-known b f h =
 
 -- ---- identities
 
--- the answer to what is refused, unless memory ran out
-pub record IsRefusal (b : Builder) (found : Option refusals.Refusal) (taken : Reply) (new : Builder) (r : Rust.Reply) : Type 0 where
-  pub told : (answer r, b) ≡ unless found taken new b
-  pub fine : IsAnswer r
+-- the response to what is refused, unless memory ran out
+pub record IsRefusal (b : Builder) (found : Option refusals.Refusal) (taken : Response) (new : Builder) (r : Rust.Response) : Type 0 where
+  pub told : (response_of r, b) ≡ unless found taken new b
+  pub written : IsWritten r
 
-refused_for : (e : ProblemError) (b new : Builder) (found : Option refusals.Refusal) (taken : Reply) → NamesKnown found → Tells e found → IsRefusal b found taken new (reply.Refused (refusal.Problem e))
-refused_for e b new found taken k h = record { told = unless-told e found taken new b h; fine = written e found k h }
+refused_for : (e : ProblemError) (b new : Builder) (found : Option refusals.Refusal) (taken : Response) → NamesKnown found → Tells e found → IsRefusal b found taken new (response.Refused (refusal.Problem e))
+refused_for e b new found taken k h = record { told = unless-told e found taken new b h; written = written e found k h }
 
-pub refused-unless : (e : ProblemError) (b new : Builder) (found : Option refusals.Refusal) (taken : Reply) → NamesKnown found → AnswersOrNoMemory {X = ℕ} (Err e) found
+pub refused-unless : (e : ProblemError) (b new : Builder) (found : Option refusals.Refusal) (taken : Response) → NamesKnown found → AnswersOrNoMemory {X = ℕ} (Err e) found
     → IfOk (of_problem e) (IsRefusal b found taken new)
 refused-unless error.NotInTable b new found taken k h = refused_for error.NotInTable b new found taken k h
 refused-unless error.FieldAfterIdentity b new found taken k h = refused_for error.FieldAfterIdentity b new found taken k h

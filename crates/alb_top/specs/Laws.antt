@@ -1,32 +1,42 @@
 -- Laws that functions of `laws` state.
-use Rattle.std.specs.Prelude.{◌≡◌, ◌⊎◌, ◌≤◌, ℕ, false, true, List, [], ◌∷◌, ◌++◌, length, Some, Ok, codes}
+use Rattle.std.specs.Prelude.{◌≡◌, ◌⊎◌, ◌≤◌, ℕ, false, true, List, [], ◌∷◌, ◌++◌, length, Option, Some, Ok}
 use Rattle.alb_io.specs.Lines.{lines_of}
 use Rattle.alb_poly.specs.Poly.{Poly}
-use Rattle.alb_query.specs.Answer.{Answer, Zero, NotZero, IsAnswer}
-use Rattle.alb_script.specs.Asked.{Asked, Claim, Prove}
-use Rattle.alb_script.specs.declared.form.Form.{Form}
-use Rattle.alb_script.specs.declared.form.Form.TheVariants.{Batch, Check}
-use Rattle.alb_table.specs.Table.{Table}
-use Rattle.alb_answer.specs.Answers.{answer_line}
+use Rattle.alb_script.specs.Asked as asking
+use Rattle.alb_script.specs.Asked.{Asked, Claim}
+use Rattle.alb_script.specs.declared.form.Form.TheVariants as form
+use Rattle.alb_judge.specs.Verdict.{Verdict, verdict_text}
+use Rattle.alb_question.specs.Laws.{verdict_of}
+use Rattle.alb_question.specs.Question.{Prove, Finding, IsFinding, answer_text}
+use Rattle.alb_question.specs.Shot.{Shot, Pair, rules_of}
 use Rattle.alb_top.specs.Runs.{Run, Answers}
-use Rattle.alb_top.specs.Script.{State, NoBlock, start, Step, Finish, asked_of, forms_of}
+use Rattle.alb_top.specs.Script.{State, NoBlock, start, Step, Finish, asked_of}
+use Rattle.alb_top.specs.declared.mode.Mode.TheVariants as mode
 
--- the transcript of a check is unique: its text, and the state behind it
+-- a script of a check, and one of a batch, before its first line
+abbrev pub check : State
+check = start mode.Check form.Check
+
+abbrev pub batch : State
+batch = start mode.Batch form.Batch
+
+-- the transcript of a check is unique: its text, and the state after it
 abbrev pub CheckIsUnique : Type 0
-CheckIsUnique = (lines : List (List ℕ)) (t u : List ℕ) (last end : State) → Answers Step Finish (start Check) lines t last → Answers Step Finish (start Check) lines u end
+CheckIsUnique = (lines : List (List ℕ)) (shown other : List (Option Pair)) (t u : List ℕ) (last end : State) → Answers Step Finish check lines shown t last → Answers Step Finish check lines other u end
     → (t ≡ u) × (last ≡ end)
 
--- the texts are the line of the same answer to `prove`, each with its own evidence behind it
+-- the texts are the same answer to `prove`, each with its own evidence after it
 pub record HaveOwnEvidence (line t u : List ℕ) : Type 0 where
   pub state : State
   pub polynomial : Poly
-  pub asks : asked_of state line ≡ Ok (Prove polynomial)
-  pub table : Table
-  pub answer : Answer
+  pub asks : asked_of state line ≡ Ok (asking.Prove polynomial)
+  pub shot : Shot
+  pub finding : Finding
+  pub found : IsFinding (rules_of state.problem) shot.table (Prove polynomial) finding
   pub here : List ℕ
   pub there : List ℕ
-  pub left : t ≡ answer_line table.p state.problem.letters table.degree answer ++ here
-  pub right : u ≡ answer_line table.p state.problem.letters table.degree answer ++ there
+  pub left : t ≡ answer_text state.problem.letters shot.table finding ++ here
+  pub right : u ≡ answer_text state.problem.letters shot.table finding ++ there
 
 -- two texts answer the lines alike: line by line with the same text, but for evidence that `prove` prints
 abbrev pub AnswerAlike : List (List ℕ) → List ℕ → List ℕ → Type 0
@@ -34,18 +44,20 @@ AnswerAlike [] t u = t ≡ u
 AnswerAlike (line ∷ lines) t u = (first : List ℕ) × (other : List ℕ) × (rest : List ℕ) × (others : List ℕ) × (t ≡ first ++ rest) × (u ≡ other ++ others)
     × ((first ≡ other) ⊎ HaveOwnEvidence line first other) × AnswerAlike lines rest others
 
--- the transcript of a batch is unique but for the evidence that `prove` prints, and the state behind it but for its table
+-- the transcript of a batch is unique but for the evidence that `prove` prints; so are the degrees and ends that it shows, and the
+-- state after it but for its table
 abbrev pub BatchIsUnique : Type 0
-BatchIsUnique = (lines : List (List ℕ)) (t u : List ℕ) (last end : State) → Answers Step Finish (start Batch) lines t last → Answers Step Finish (start Batch) lines u end
-    → AnswerAlike lines t u × (end ≡ record last { table = end.table })
+BatchIsUnique = (lines : List (List ℕ)) (shown other : List (Option Pair)) (t u : List ℕ) (last end : State) → Answers Step Finish batch lines shown t last → Answers Step Finish batch lines other u end
+    → AnswerAlike lines t u × (shown ≡ other) × (end ≡ record last { shot = end.shot })
 
 -- ---- printed evidence
 
--- some lines lead a script of this form to the state
-pub record IsReached (form : Form) (s : State) : Type 0 where
+-- some lines lead a script that opens so to the state
+pub record IsReached (opening s : State) : Type 0 where
   pub lines : List (List ℕ)
+  pub shown : List (Option Pair)
   pub text : List ℕ
-  pub run : Run Step (start form) lines text s
+  pub run : Run Step opening lines shown text s
 
 -- the script goes on, no block is open, and the line asks for this
 pub record Asks (s : State) (line : List ℕ) (a : Asked) : Type 0 where
@@ -56,29 +68,24 @@ pub record Asks (s : State) (line : List ℕ) (a : Asked) : Type 0 where
 
 -- the lines are answered by this text, and by no other
 pub record AnswersOnly (s : State) (lines : List (List ℕ)) (text : List ℕ) : Type 0 where
+  pub shown : List (Option Pair)
   pub last : State
-  pub run : Run Step s lines text last
-  pub only : (t : List ℕ) (end : State) → Run Step s lines t end → (t ≡ text) × (end ≡ last)
+  pub run : Run Step s lines shown text last
+  pub only : (other : List (Option Pair)) (t : List ℕ) (end : State) → Run Step s lines other t end → (t ≡ text) × (end ≡ last)
 
--- the lines are accepted, as what shows this answer
-abbrev pub AcceptsAs : Answer → State → List (List ℕ) → Type 0
-AcceptsAs Zero s lines = AnswersOnly s lines (codes "accepted zero\n")
-AcceptsAs (NotZero f) s lines = AnswersOnly s lines (codes "accepted not zero\n")
-AcceptsAs other s lines = Unit {0}
-
--- The text is the line of the answer to `g`, and behind it evidence: a check about the same problem that is asked the claim `g`
--- accepts it.
+-- The text is the answer to `g`, and after it evidence: a check about the same problem that is asked the claim `g` answers the
+-- claim and the evidence by the verdict that is due, which accepts.
 pub record PrintsEvidence (old : State) (g : Poly) (text : List ℕ) : Type 0 where
-  pub table : Table
-  pub answer : Answer
+  pub shot : Shot
+  pub finding : Finding
   pub evidence : List ℕ
-  pub asked : old.table ≡ Some table
-  pub is : IsAnswer table.p (forms_of old.problem) table.target table.degree g answer
-  pub text_is : text ≡ answer_line table.p old.problem.letters table.degree answer ++ evidence
-  pub accepts : (s : State) (claim : List ℕ) → IsReached Check s → s.problem ≡ old.problem → s.built ≡ true → Asks s claim (Claim g)
-      → AcceptsAs answer s (claim ∷ lines_of evidence)
+  pub asked : old.shot ≡ Some shot
+  pub found : IsFinding (rules_of old.problem) shot.table (Prove g) finding
+  pub text_is : text ≡ answer_text old.problem.letters shot.table finding ++ evidence
+  pub accepts : (v : Verdict) → verdict_of finding ≡ Some v → (s : State) (claim : List ℕ) → IsReached check s → s.problem ≡ old.problem → s.built ≡ true → Asks s claim (Claim g)
+      → AnswersOnly s (claim ∷ lines_of evidence) (verdict_text v)
 
 -- EVIDENCE THAT `prove` PRINTED IS ACCEPTED BY `check`
 abbrev pub EvidenceIsAccepted : Type 0
-EvidenceIsAccepted = (old new : State) (line text : List ℕ) (g : Poly) → IsReached Batch old → Asks old line (Prove g) → Step old line text new
+EvidenceIsAccepted = (old new : State) (line text : List ℕ) (shown : Option Pair) (g : Poly) → IsReached batch old → Asks old line (asking.Prove g) → Step old line shown text new
     → PrintsEvidence old g text

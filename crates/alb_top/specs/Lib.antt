@@ -1,9 +1,10 @@
-pub mod Verdict
+pub mod Modes
+pub mod Runs
+pub mod Response
 pub mod Script
 pub mod Sound
 pub mod View
-pub mod Forms
-pub mod Runs
 pub mod Outcome
-pub mod Going
+pub mod Does
+pub mod Turns
 pub mod Laws

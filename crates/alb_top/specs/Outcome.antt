@@ -1,30 +1,33 @@
--- What a run did with the bytes that it took, by its status.
-use Rattle.std.specs.Prelude.{◌≡◌, ◌⊎◌, ℕ, ◌^◌, ◌<◌, Bool, true, false, List, [], ◌∷◌, ◌++◌, length, Option, None, Some}
+-- What a run of a script did with the bytes that it took, by its status. The script opens in a state, which its mode names.
+use Rattle.std.specs.Prelude.{◌≡◌, ◌⊎◌, ℕ, ◌^◌, ◌<◌, ◌≤◌, Bool, true, false, List, [], ◌∷◌, ◌++◌, length, Option, None, Some}
+use Rattle.std.specs.Io.KnownBytes.{Consumes, Appends}
 use Rattle.alb_io.specs.Lines.{lines_of, whole_lines}
 use Rattle.alb_io.specs.Reading.{TakesLines}
-use Rattle.alb_script.specs.declared.form.Form.{Form}
+use Rattle.alb_question.specs.Shot.{Pair}
 use Rattle.alb_top.specs.Runs.{Run, Answers}
-use Rattle.alb_top.specs.Script.{State, start, Step, Finish}
+use Rattle.alb_top.specs.Script.{State, Step, Finish}
 use Rattle.alb_io.specs.declared.status.Status.{Status}
 use Rattle.alb_io.specs.declared.status.Status.TheVariants as status
 
 -- the text is the transcript of the input, and the script is clean or not
-pub record IsTranscript (form : Form) (input text : List ℕ) (clean : Bool) : Type 0 where
+pub record IsTranscript (opening : State) (input text : List ℕ) (clean : Bool) : Type 0 where
+  pub shown : List (Option Pair)
   pub last : State
-  pub answers : Answers Step Finish (start form) (lines_of input) text last
+  pub answers : Answers Step Finish opening (lines_of input) shown text last
   pub judged : last.clean ≡ clean
 
 -- the text answers the whole lines of the bytes that were taken, and the script goes on
-pub record AnswersSoFar (form : Form) (taken text : List ℕ) : Type 0 where
+pub record AnswersSoFar (opening : State) (taken text : List ℕ) : Type 0 where
+  pub shown : List (Option Pair)
   pub last : State
-  pub run : Run Step (start form) (whole_lines taken) text last
+  pub run : Run Step opening (whole_lines taken) shown text last
   pub runs : last.closed ≡ false
 
 -- the text is a front of the transcript of the input
-pub record IsFront (form : Form) (input text : List ℕ) : Type 0 where
+pub record IsFront (opening : State) (input text : List ℕ) : Type 0 where
   pub rest : List ℕ
   pub clean : Bool
-  pub transcript : IsTranscript form input (text ++ rest) clean
+  pub transcript : IsTranscript opening input (text ++ rest) clean
 
 -- the text answers the lines, and none before the last ends the script
 pub record AnswersUpTo (old : State) (lines : List (List ℕ)) (text : List ℕ) (new : State) : Type 0 where
@@ -33,43 +36,51 @@ pub record AnswersUpTo (old : State) (lines : List (List ℕ)) (text : List ℕ)
   pub body : List ℕ
   pub end : List ℕ
   pub mid : State
+  pub shown : List (Option Pair)
+  pub last : Option Pair
   pub lines_are : lines ≡ before ++ line ∷ []
   pub text_is : text ≡ body ++ end
-  pub run : Run Step old before body mid
+  pub run : Run Step old before shown body mid
   pub runs : mid.closed ≡ false
-  pub step : Step mid line end new
+  pub step : Step mid line last end new
 
 -- A line of the input ended the script. The text answers the lines up to it; their bytes were taken, and at most 4,096 more.
-pub record EndsInside (form : Form) (input taken text : List ℕ) : Type 0 where
+pub record EndsInside (opening : State) (input taken text : List ℕ) : Type 0 where
   pub lines : List (List ℕ)
   pub more : List (List ℕ)
   pub last : State
   pub cut : lines_of input ≡ lines ++ more
   pub takes : TakesLines taken lines
-  pub answers : AnswersUpTo (start form) lines text last
+  pub answers : AnswersUpTo opening lines text last
   pub closed : last.closed ≡ true
 
 -- the input was read to its end, with fewer bytes than the limit, or to the line that ends the script
-abbrev pub IsRead : Form → List ℕ → List ℕ → List ℕ → Type 0
-IsRead form input taken text = ((input ≡ taken) × (length taken < 2 ^ 40)) ⊎ EndsInside form input taken text
+abbrev pub IsRead : State → List ℕ → List ℕ → List ℕ → Type 0
+IsRead opening input taken text = ((input ≡ taken) × (length taken < 2 ^ 40)) ⊎ EndsInside opening input taken text
 
--- by the status, what the text is to the input, of which these bytes were taken, for a script of this form
-abbrev pub Writes : Form → Status → List ℕ → List ℕ → List ℕ → Type 0
-Writes form status.Done input taken text = IsTranscript form input text true × IsRead form input taken text
-Writes form status.Refused input taken text = IsTranscript form input text false × IsRead form input taken text
-Writes form status.ReadFault input taken text = AnswersSoFar form taken text
-Writes form status.InputLimit input taken text = AnswersSoFar form taken text × (length taken ≡ 2 ^ 40)
-Writes form status.WriteFault input taken text = IsFront form input text
-Writes form status.NoMemory input taken text = IsFront form input text
-Writes form status.Usage input taken text = ⊥
-Writes form status.OpenFault input taken text = ⊥
-Writes form status.ReportFault input taken text = ⊥
+-- by the status, what the text is to the input, of which these bytes were taken, for a script that opens so
+abbrev pub Transcribes : State → Status → List ℕ → List ℕ → List ℕ → Type 0
+Transcribes opening status.Done input taken text = IsTranscript opening input text true × IsRead opening input taken text
+Transcribes opening status.Refused input taken text = IsTranscript opening input text false × IsRead opening input taken text
+Transcribes opening status.ReadFault input taken text = AnswersSoFar opening taken text
+Transcribes opening status.InputLimit input taken text = AnswersSoFar opening taken text × (length taken ≡ 2 ^ 40)
+Transcribes opening status.WriteFault input taken text = IsFront opening input text
+Transcribes opening status.NoMemory input taken text = IsFront opening input text
+Transcribes opening status.Usage input taken text = ⊥
+Transcribes opening status.OpenFault input taken text = ⊥
+Transcribes opening status.ReportFault input taken text = ⊥
 
 -- the input, where it tells its bytes; of another one no more is known than the bytes that were taken
 abbrev pub input_of : Option (List ℕ) → List ℕ → List ℕ
 input_of (Some input) taken = input
 input_of None taken = taken
 
-abbrev pub status_of : Bool → Status
-status_of true = status.Done
-status_of false = status.Refused
+-- WHAT A RUN OF A SCRIPT DID: the bytes that it took, the text that it appended, and what the text is to the input. Of an input
+-- that does not tell its bytes, it is that to the bytes that were taken.
+pub record Outcome (opening : State) (status : Status) (first now before after : Option (List ℕ)) : Type 0 where
+  pub taken : List ℕ
+  pub text : List ℕ
+  pub consumed : Consumes first now taken
+  pub written : Appends before after text
+  pub limit : length taken ≤ 2 ^ 40
+  pub transcribes : Transcribes opening status (input_of first taken) taken text

@@ -1,181 +1,131 @@
 -- The scripts of a check and of a batch: what has been said so far, and what each line is answered.
-use Rattle.std.specs.Prelude.{◌≡◌, ℕ, ◌+◌, Bool, true, false, ◌&&◌, List, [], ◌∷◌, ◌++◌, length, map, drop, sum, Option, None, Some, Result, Ok, Err, nat_eq, nat_lt, if◌then◌else◌, decimal, codes}
-use Rattle.std.specs.List.{starts_with}
-use Rattle.alb_lex.specs.Lexing.{is_blank}
+use Rattle.std.specs.Prelude.{◌≡◌, ℕ, ◌+◌, Bool, true, false, ◌&&◌, List, [], ◌∷◌, ◌++◌, length, sum, Option, None, Some, Result, Ok, Err, nat_lt, if◌then◌else◌}
 use Rattle.alb_poly.specs.Poly.{Poly}
-use Rattle.alb_poly.specs.Instance.{Form}
 use Rattle.alb_problem.specs.Generators.{letters, counts}
-use Rattle.alb_problem.specs.Builder.{Builder, linear_form}
+use Rattle.alb_problem.specs.Builder.{Builder}
 use Rattle.alb_problem.specs.Refusals as refusals
+use Rattle.alb_problem.specs.Sound.{forms_of}
 use Rattle.alb_script.specs.Asked as asking
-use Rattle.alb_script.specs.Asked.{Asked, Field, Generators, Identity, Build, Claim, Quit, asked}
-use Rattle.alb_script.specs.Refusals.{line_of, command_text, stated_text}
+use Rattle.alb_script.specs.Asked.{Asked, Field, Generators, Identity, Build, Claim, Quit, asked, command_word}
 use Rattle.alb_script.specs.declared.form.Form as scripts
-use Rattle.alb_script.specs.declared.form.Form.TheVariants as form
+use Rattle.alb_script.specs.declared.word.Word.{Word}
+use Rattle.alb_script.specs.declared.word.Word.TheVariants as word
 use Rattle.alb_script.specs.declared.error.CommandError.{CommandError}
-use Rattle.alb_evidence.specs.Words.{ends_word, is_end}
+use Rattle.alb_evidence.specs.Words.{is_end}
 use Rattle.alb_evidence.specs.Block.{Evidence, Fault, evidence_of}
-use Rattle.alb_evidence.specs.Texts.{lines_text, table_text}
-use Rattle.alb_table.specs.RightFor.{RulesView, IsRightFor}
-use Rattle.alb_table.specs.Table.{Table}
-use Rattle.alb_table.specs.End.{End, IsEnd}
-use Rattle.alb_query.specs.Answer.{Answer, IsAnswer}
-use Rattle.alb_trace.specs.Proof.{Shown, ByLines, ByTable, ByNothing, Shows}
-use Rattle.alb_answer.specs.Answers.{answer_line, dimension_lines, product_lines, built_line}
-use Rattle.alb_top.specs.Verdict.{Verdict, IsVerdict, is_accepted, verdict_text, IsJustified, IsMeant, IsShownMeant}
+use Rattle.alb_judge.specs.Verdict.{Verdict, IsVerdict, IsJustified}
+use Rattle.alb_question.specs.Shot.{Shot, Pair, rules_of, IsBuilt}
+use Rattle.alb_question.specs.Question.{Question, Polynomial, Prove, Dimensions, Products, Finding, IsFinding}
+use Rattle.alb_question.specs.Meaning.{IsTrueOf}
+use Rattle.alb_top.specs.Response.{Response, Nothing, Accepted, Numbered, Ready, Built, Found, Refused, Judged, Refusal, TooLong, OfCommand, OfProblem, is_clean, response_text, pair_shown}
+use Rattle.alb_top.specs.declared.mode.Mode as modes
+use Rattle.alb_top.specs.declared.mode.Mode.TheVariants as mode
 
--- What the lines of an open block stand behind: nothing, where no block is open; a claim, with the lines so far; or a claim
--- whose line is refused, with the refusal.
+-- What the lines of an open block come after: nothing, where no block is open; a claim, with the lines so far; or a claim whose
+-- line is refused, with its fault.
 pub data Open : Type 0 where
   NoBlock : Open
   Claimed : Poly → List (List ℕ) → Open
-  Refused : List ℕ → Open
+  Skipped : CommandError → Open
 
--- How far a script has come: its form; the field, the generators and the identities that were accepted; whether `build` was;
--- the table that it gave, in a batch; the open block; whether the script has ended, by `quit`; and whether no line was refused
--- and no evidence rejected.
+-- How far a script has come: its mode and its form; the field, the generators and the identities that were accepted; whether
+-- `build` was; the shot at which the building ended, in a batch; the open block; whether the script has ended, by `quit`; and
+-- whether no line was refused and no evidence rejected.
 pub record State : Type 0 where
+  pub mode : modes.Mode
   pub form : scripts.Form
   pub problem : Builder
   pub built : Bool
-  pub table : Option Table
+  pub shot : Option Shot
   pub block : Open
   pub closed : Bool
   pub clean : Bool
 
-abbrev pub start : scripts.Form → State
-start f = record {
+abbrev pub start : modes.Mode → scripts.Form → State
+start m f = record {
+  mode = m;
   form = f;
   problem = record { field = 251; letters = []; counts = []; identities = [] };
   built = false;
-  table = None;
+  shot = None;
   block = NoBlock;
   closed = false;
   clean = true;
 }
 
--- the linearized identities
-abbrev pub forms_of : Builder → List Form
-forms_of b = map (linear_form b.field) b.identities
-
--- ---- answers
-
-pub data Reply : Type 0 where
-  Nothing : Reply
-  Accepted : Reply
-  NumberedIdentity : ℕ → Reply
-  Ready : Reply
-  Told : List ℕ → Reply
-  RefusedLine : List ℕ → Reply
-  Judged : Verdict → Reply
-
-abbrev pub text_of : Reply → List ℕ
-text_of Nothing = []
-text_of Accepted = codes "ok\n"
-text_of (NumberedIdentity k) = line_of (codes "identity ") (decimal k)
-text_of Ready = codes "ready\n"
-text_of (Told text) = text
-text_of (RefusedLine text) = text
-text_of (Judged v) = verdict_text v
-
--- a line was refused, or its evidence rejected
-abbrev pub is_clean : Reply → Bool
-is_clean (RefusedLine text) = false
-is_clean (Judged v) = is_accepted v
-is_clean other = true
-
--- a script stays clean as long as its answers are
-abbrev pub tell : Reply → State → Reply × State
-tell reply s = (reply, record s { clean = is_clean reply && s.clean })
+-- a script stays clean as long as its responses are
+abbrev pub respond : Response → State → Response × State
+respond r s = (r, record s { clean = is_clean r && s.clean })
 
 -- ---- commands
 
--- the answer to what is accepted and the problem behind it; or the refusal, which leaves the problem as it was
-abbrev pub unless : Option refusals.Refusal → Reply → Builder → Builder → Reply × Builder
-unless None reply new old = (reply, new)
-unless (Some r) reply new old = (RefusedLine (stated_text r), old)
+-- the response to what is accepted and the problem after it; or the refusal, which leaves the problem as it was
+abbrev pub unless : Option refusals.Refusal → Response → Builder → Builder → Response × Builder
+unless None response new old = (response, new)
+unless (Some r) response new old = (Refused (OfProblem r), old)
 
--- what a statement about the problem is answered, and the problem behind it
-abbrev pub stated : Builder → Asked → Reply × Builder
-stated b (Field p) = unless (refusals.field_refusal b p) Accepted (record { field = p; letters = b.letters; counts = b.counts; identities = b.identities }) b
-stated b (Generators ts end) =
-    unless (refusals.generators_refusal b ts end) Accepted (record { field = b.field; letters = letters ts; counts = counts ts; identities = b.identities }) b
-stated b (Identity f) =
-    unless (refusals.identity_refusal b f) (NumberedIdentity (length b.identities + 1)) (record { field = b.field; letters = b.letters; counts = b.counts; identities = b.identities ++ f ∷ [] }) b
+-- what a statement about the problem is answered, and the problem after it
+abbrev pub stated : Builder → Asked → Response × Builder
+stated b (Field p) = unless (refusals.field_refusal b p) Accepted (record b { field = p }) b
+stated b (Generators ts end) = unless (refusals.generators_refusal b ts end) Accepted (record b { letters = letters ts; counts = counts ts }) b
+stated b (Identity f) = unless (refusals.identity_refusal b f) (Numbered (length b.identities + 1)) (record b { identities = b.identities ++ f ∷ [] }) b
 stated b other = (Nothing, b)
 
-abbrev pub with_problem : State → Reply × Builder → Reply × State
-with_problem s answer = tell answer.0 (record s { problem = answer.1 })
+abbrev pub with_problem : State → Response × Builder → Response × State
+with_problem s answer = respond answer.0 (record s { problem = answer.1 })
 
--- what a command is answered that is a statement, a claim or the end, and what the script has come to behind it
-abbrev pub obey : State → Asked → Reply × State
-obey s (Claim f) = tell Nothing (record s { block = Claimed f [] })
-obey s Quit = tell Nothing (record s { closed = true })
+-- what a command is answered that is a statement, a claim or the end, and what the script has come to after it
+abbrev pub obey : State → Asked → Response × State
+obey s (Claim f) = respond Nothing (record s { block = Claimed f [] })
+obey s Quit = respond Nothing (record s { closed = true })
 obey s statement = with_problem s (stated s.problem statement)
 
 -- ---- tables and questions
 
--- the rules of a problem
-abbrev pub rules_of : Builder → RulesView
-rules_of b = record { p = b.field; target = b.counts; forms = forms_of b }
+-- the building of an accepted problem ends at this shot, which stands in the script from here on
+pub record Builds (old : State) (response : Response) (new : State) : Type 0 where
+  pub shot : Shot
+  pub built : IsBuilt (rules_of old.problem) shot
+  pub told : (response, new) ≡ respond Built (record old { built = true; shot = Some shot })
 
--- the right table at which the building of an accepted problem ends, and how; the table stands in the script from here on
-pub record Builds (old : State) (reply : Reply) (new : State) : Type 0 where
-  pub table : Table
-  pub end : End
-  pub right : IsRightFor (rules_of old.problem) table
-  pub ends : IsEnd (forms_of old.problem) table end
-  pub told : (reply, new) ≡ tell (Told (built_line table.degree end)) (record old { built = true; table = Some table })
+-- `build` of an accepted problem, by the mode: a check needs no table
+abbrev pub BuildsBy : modes.Mode → State → Response → State → Type 0
+BuildsBy mode.Batch old response new = Builds old response new
+BuildsBy mode.Check old response new = (response, new) ≡ respond Ready (record old { built = true })
 
--- `build` of an accepted problem: a check needs no table
-abbrev pub BuildsBy : scripts.Form → State → Reply → State → Type 0
-BuildsBy form.Check old reply new = (reply, new) ≡ tell Ready (record old { built = true })
-BuildsBy other old reply new = Builds old reply new
+abbrev pub BuildsUnless : Option refusals.Refusal → State → Response → State → Type 0
+BuildsUnless None old response new = BuildsBy old.mode old response new
+BuildsUnless (Some r) old response new = (response, new) ≡ respond (Refused (OfProblem r)) old
 
-abbrev pub BuildsUnless : Option refusals.Refusal → State → Reply → State → Type 0
-BuildsUnless None old reply new = BuildsBy old.form old reply new
-BuildsUnless (Some r) old reply new = (reply, new) ≡ tell (RefusedLine (stated_text r)) old
+-- the question that a command asks
+abbrev pub question_in : Asked → Option Question
+question_in (asking.Polynomial g) = Some (Polynomial g)
+question_in (asking.Prove g) = Some (Prove g)
+question_in asking.Dimensions = Some Dimensions
+question_in asking.Table = Some Products
+question_in other = None
 
--- a question about `g` is answered by the table `t`
-pub record Answers (old : State) (t : Table) (g : Poly) (reply : Reply) (new : State) : Type 0 where
-  pub answer : Answer
-  pub is : IsAnswer t.p (forms_of old.problem) t.target t.degree g answer
-  pub told : (reply, new) ≡ tell (Told (answer_line t.p old.problem.letters t.degree answer)) old
-  pub meant : IsMeant t.p old.problem.identities g answer
+-- A QUESTION IS ANSWERED by what is found for it by the table of the shot, and that is true of the problem's identities.
+pub record Finds (old : State) (shot : Shot) (q : Question) (response : Response) (new : State) : Type 0 where
+  pub finding : Finding
+  pub is : IsFinding (rules_of old.problem) shot.table q finding
+  pub holds : IsTrueOf shot.table.p old.problem.identities q finding
+  pub told : (response, new) ≡ respond (Found finding) old
 
--- what is shown prints as evidence
-abbrev pub shown_text : ℕ → List ℕ → Shown → List ℕ
-shown_text p letters (ByLines ls) = lines_text p letters ls
-shown_text p letters (ByTable t) = table_text p letters t
-shown_text p letters ByNothing = []
+-- a question to the shot of the script, if it has one
+abbrev pub FindsBy : Option Shot → State → Question → Response → State → Type 0
+FindsBy (Some shot) old q response new = Finds old shot q response new
+FindsBy None old q response new = ⊥
 
--- the same, and behind the answer stands what shows it
-pub record Proves (old : State) (t : Table) (g : Poly) (reply : Reply) (new : State) : Type 0 where
-  pub answer : Answer
-  pub is : IsAnswer t.p (forms_of old.problem) t.target t.degree g answer
-  pub shown : Shown
-  pub shows : Shows (forms_of old.problem) t g answer shown
-  pub told : (reply, new) ≡ tell (Told (answer_line t.p old.problem.letters t.degree answer ++ shown_text t.p old.problem.letters shown)) old
-  pub meant : IsMeant t.p old.problem.identities g answer
-  pub shown_meant : IsShownMeant t.p old.problem.identities g shown
+-- a question, or another command
+abbrev pub ObeysAs : Option Question → State → Asked → Response → State → Type 0
+ObeysAs (Some q) old a response new = FindsBy old.shot old q response new
+ObeysAs None old a response new = (response, new) ≡ obey old a
 
--- a question to a table
-abbrev pub AsksTable : Option Table → State → Asked → Reply → State → Type 0
-AsksTable (Some t) old (asking.Polynomial g) reply new = Answers old t g reply new
-AsksTable (Some t) old (asking.Prove g) reply new = Proves old t g reply new
-AsksTable (Some t) old asking.Dimensions reply new = (reply, new) ≡ tell (Told (dimension_lines t)) old
-AsksTable (Some t) old asking.Table reply new = (reply, new) ≡ tell (Told (product_lines old.problem.letters t)) old
-AsksTable (Some t) old other reply new = ⊥
-AsksTable None old a reply new = ⊥
-
--- what a command is answered, and what the script has come to behind it
-abbrev pub Obeys : State → Asked → Reply → State → Type 0
-Obeys old Build reply new = BuildsUnless (refusals.finish_refusal old.problem) old reply new
-Obeys old (asking.Polynomial g) reply new = AsksTable old.table old (asking.Polynomial g) reply new
-Obeys old (asking.Prove g) reply new = AsksTable old.table old (asking.Prove g) reply new
-Obeys old asking.Dimensions reply new = AsksTable old.table old asking.Dimensions reply new
-Obeys old asking.Table reply new = AsksTable old.table old asking.Table reply new
-Obeys old other reply new = (reply, new) ≡ obey old other
+-- what a command is answered, and what the script has come to after it
+abbrev pub Obeys : State → Asked → Response → State → Type 0
+Obeys old Build response new = BuildsUnless (refusals.finish_refusal old.problem) old response new
+Obeys old other response new = ObeysAs (question_in other) old other response new
 
 -- ---- lines
 
@@ -186,33 +136,28 @@ letters_of s = if s.built then s.problem.letters else []
 abbrev pub total_of : State → ℕ
 total_of s = if s.built then sum s.problem.counts else 0
 
--- the first word is `claim`
-abbrev pub begins_claim : List ℕ → Bool
-begins_claim [] = false
-begins_claim (b ∷ bs) =
-    if is_blank b then begins_claim bs else starts_with nat_eq (b ∷ bs) (codes "claim") && ends_word (drop 5 (b ∷ bs))
-
--- a line of a check that begins so is followed by a block
-abbrev pub begins_block : scripts.Form → List ℕ → Bool
-begins_block form.Check line = begins_claim line
-begins_block other line = false
+-- the word is `claim`, which a block follows
+abbrev pub is_claim : Option Word → Bool
+is_claim (Some word.Claim) = true
+is_claim other = false
 
 -- a line that is no command here; the block of a refused claim comes before its refusal
-abbrev pub refuse_line : State → List ℕ → CommandError → Reply × State
-refuse_line s line e = if begins_block s.form line then tell Nothing (record s { block = Refused (command_text e) }) else tell (RefusedLine (command_text e)) s
+abbrev pub refuse : Bool → State → CommandError → Response × State
+refuse true s e = respond Nothing (record s { block = Skipped e })
+refuse false s e = respond (Refused (OfCommand e)) s
 
-abbrev pub ObeysLine : State → List ℕ → Result Asked CommandError → Reply → State → Type 0
-ObeysLine old line (Ok a) reply new = Obeys old a reply new
-ObeysLine old line (Err e) reply new = (reply, new) ≡ refuse_line old line e
+abbrev pub ObeysLine : State → List ℕ → Result Asked CommandError → Response → State → Type 0
+ObeysLine old line (Ok a) response new = Obeys old a response new
+ObeysLine old line (Err e) response new = (response, new) ≡ refuse (is_claim (command_word old.form line)) old e
 
 -- what a line asks for, or its first fault
 abbrev pub asked_of : State → List ℕ → Result Asked CommandError
 asked_of s line = asked s.form s.built (total_of s) s.problem.field (letters_of s) line
 
 -- a line outside all blocks, by whether it is too long
-abbrev pub Commands : Bool → State → List ℕ → Reply → State → Type 0
-Commands true old line reply new = (reply, new) ≡ tell (RefusedLine (codes "refused 84\n")) old
-Commands false old line reply new = ObeysLine old line (asked_of old line) reply new
+abbrev pub Commands : Bool → State → List ℕ → Response → State → Type 0
+Commands true old line response new = (response, new) ≡ respond (Refused TooLong) old
+Commands false old line response new = ObeysLine old line (asked_of old line) response new
 
 -- ---- blocks
 
@@ -220,53 +165,58 @@ Commands false old line reply new = ObeysLine old line (asked_of old line) reply
 abbrev pub shut : State → State
 shut s = record s { block = NoBlock }
 
--- the evidence for a claim is judged
-pub record Judges (old : State) (claim : Poly) (given : Result Evidence Fault) (reply : Reply) (new : State) : Type 0 where
+-- A CLAIM IS ANSWERED by the verdict on its evidence, which is justified.
+pub record Judges (old : State) (claim : Poly) (given : Result Evidence Fault) (response : Response) (new : State) : Type 0 where
   pub verdict : Verdict
   pub judged : IsVerdict old.problem.field old.problem.counts (forms_of old.problem) claim given verdict
-  pub told : (reply, new) ≡ tell (Judged verdict) (shut old)
   pub justified : IsJustified old.problem.field old.problem.identities claim verdict
+  pub told : (response, new) ≡ respond (Judged verdict) (shut old)
 
 -- the end of a block answers its claim: its line `end`, or the end of the input
-abbrev pub EndsBlock : Open → State → Bool → Reply → State → Type 0
-EndsBlock NoBlock old has_end reply new = (reply ≡ Nothing) × (new ≡ old)
-EndsBlock (Claimed f lines) old has_end reply new = Judges old f (evidence_of old.problem.field (letters_of old) lines has_end) reply new
-EndsBlock (Refused text) old has_end reply new = (reply, new) ≡ tell (RefusedLine text) (shut old)
+abbrev pub EndsBlock : Open → State → Bool → Response → State → Type 0
+EndsBlock NoBlock old has_end response new = (response ≡ Nothing) × (new ≡ old)
+EndsBlock (Claimed f lines) old has_end response new = Judges old f (evidence_of old.problem.field (letters_of old) lines has_end) response new
+EndsBlock (Skipped e) old has_end response new = (response, new) ≡ respond (Refused (OfCommand e)) (shut old)
 
 -- a line inside a block that does not end it
 abbrev pub inside : Open → State → List ℕ → State
 inside NoBlock s line = s
 inside (Claimed f lines) s line = record s { block = Claimed f (lines ++ line ∷ []) }
-inside (Refused text) s line = s
+inside (Skipped e) s line = s
 
 -- a line of a block
-abbrev pub OfBlock : Bool → State → List ℕ → Reply → State → Type 0
-OfBlock true old line reply new = EndsBlock old.block old true reply new
-OfBlock false old line reply new = (reply ≡ Nothing) × (new ≡ inside old.block old line)
+abbrev pub OfBlock : Bool → State → List ℕ → Response → State → Type 0
+OfBlock true old line response new = EndsBlock old.block old true response new
+OfBlock false old line response new = (response ≡ Nothing) × (new ≡ inside old.block old line)
 
 -- ---- the transcript
 
-abbrev pub AnswersIn : Open → State → List ℕ → Reply → State → Type 0
-AnswersIn NoBlock old line reply new = Commands (nat_lt 65536 (length line)) old line reply new
-AnswersIn other old line reply new = OfBlock (is_end line) old line reply new
+abbrev pub AnswersIn : Open → State → List ℕ → Response → State → Type 0
+AnswersIn NoBlock old line response new = Commands (nat_lt 65536 (length line)) old line response new
+AnswersIn other old line response new = OfBlock (is_end line) old line response new
 
--- what a line is answered; behind the end of the script it is not read
-abbrev pub AnswersLine : Bool → State → List ℕ → Reply → State → Type 0
-AnswersLine true old line reply new = (reply ≡ Nothing) × (new ≡ old)
-AnswersLine false old line reply new = AnswersIn old.block old line reply new
+-- what a line is answered; after the end of the script it is not read
+abbrev pub AnswersLine : Bool → State → List ℕ → Response → State → Type 0
+AnswersLine true old line response new = (response ≡ Nothing) × (new ≡ old)
+AnswersLine false old line response new = AnswersIn old.block old line response new
 
--- one line of the transcript
-pub record Step (old : State) (line text : List ℕ) (new : State) : Type 0 where
-  pub reply : Reply
-  pub answers : AnswersLine old.closed old line reply new
-  pub told : text ≡ text_of reply
+-- how a response prints in a state
+abbrev pub text_of : State → Response → List ℕ
+text_of s response = response_text s.problem.letters s.shot response
 
--- the end of the lines; behind the end of the script it asks for no answer
-abbrev pub AnswersEnd : Bool → State → Reply → State → Type 0
-AnswersEnd true old reply new = (reply ≡ Nothing) × (new ≡ old)
-AnswersEnd false old reply new = EndsBlock old.block old false reply new
+-- ONE LINE OF THE TRANSCRIPT: its text, and the degree and the end that it shows
+pub record Step (old : State) (line : List ℕ) (shown : Option Pair) (text : List ℕ) (new : State) : Type 0 where
+  pub response : Response
+  pub answers : AnswersLine old.closed old line response new
+  pub shows : shown ≡ pair_shown new.shot response
+  pub told : text ≡ text_of new response
+
+-- the end of the lines; after the end of the script it asks for no answer
+abbrev pub AnswersEnd : Bool → State → Response → State → Type 0
+AnswersEnd true old response new = (response ≡ Nothing) × (new ≡ old)
+AnswersEnd false old response new = EndsBlock old.block old false response new
 
 pub record Finish (old : State) (text : List ℕ) (new : State) : Type 0 where
-  pub reply : Reply
-  pub answers : AnswersEnd old.closed old reply new
-  pub told : text ≡ text_of reply
+  pub response : Response
+  pub answers : AnswersEnd old.closed old response new
+  pub told : text ≡ text_of new response

@@ -1,47 +1,33 @@
 -- What is true of every state that a script comes to.
-use Rattle.std.specs.Prelude.{◌≡◌, ◌≤◌, Bool, true, false, length, Option, None, Some}
-use Rattle.gf_field.specs.Primes.{IsInTable}
-use Rattle.alb_mono.specs.Letters.{AreLetters}
-use Rattle.alb_mono.specs.Listing.{Each}
-use Rattle.alb_poly.specs.Identity.{IsHomogeneous}
-use Rattle.alb_linear.specs.Identity.{leading_type, identity_fault}
+use Rattle.std.specs.Prelude.{◌≡◌, Bool, true, false, Option, None, Some}
 use Rattle.alb_problem.specs.Builder.{Builder}
-use Rattle.alb_problem.specs.Generators.{AreGenerators}
 use Rattle.alb_problem.specs.Refusals.{finish_refusal}
-use Rattle.alb_script.specs.declared.form.Form.{Form}
-use Rattle.alb_script.specs.declared.form.Form.TheVariants.{Check}
-use Rattle.alb_table.specs.Table.{Table}
-use Rattle.alb_table.specs.RightFor.{IsRightFor}
-use Rattle.alb_top.specs.Script.{State, Open, Claimed, rules_of}
+use Rattle.alb_problem.specs.Sound.{IsSoundProblem}
+use Rattle.alb_question.specs.Shot.{Shot, rules_of, IsBuilt}
+use Rattle.alb_top.specs.Modes.{script_form}
+use Rattle.alb_top.specs.Script.{State, Open, Claimed}
+use Rattle.alb_top.specs.declared.mode.Mode.{Mode}
+use Rattle.alb_top.specs.declared.mode.Mode.TheVariants as mode
 
--- the field is one of the table, the generators have different letters, each with its count, and there are at most 32 identities,
--- which are homogeneous, of degree 2 to 8
-pub record IsSoundProblem (b : Builder) : Type 0 where
-  pub field : IsInTable b.field
-  pub generators : AreGenerators b.letters b.counts
-  pub letters : AreLetters b.letters
-  pub few : length b.identities ≤ 32
-  pub homogeneous : Each (λ f. IsHomogeneous (leading_type f) f) b.identities
-  pub faultless : Each (λ f. identity_fault f ≡ None) b.identities
+-- claims stand after `build`
+abbrev pub IsAfterBuild : Open → Bool → Type 0
+IsAfterBuild (Claimed f lines) built = built ≡ true
+IsAfterBuild other built = Unit {0}
 
--- claims stand behind `build`
-abbrev pub IsBehindBuild : Open → Bool → Type 0
-IsBehindBuild (Claimed f lines) built = built ≡ true
-IsBehindBuild other built = Unit {0}
+-- there is a shot at which the building of the problem ends
+abbrev pub HasBuilt : Builder → Option Shot → Type 0
+HasBuilt b (Some s) = IsBuilt (rules_of b) s
+HasBuilt b None = ⊥
 
--- there is a right table
-abbrev pub HasRight : Builder → Option Table → Type 0
-HasRight b (Some t) = IsRightFor (rules_of b) t
-HasRight b None = ⊥
-
--- behind `build` every script has it but a check
-abbrev pub HasTable : Form → Bool → Builder → Option Table → Type 0
-HasTable Check built b table = Unit {0}
-HasTable other true b table = HasRight b table
-HasTable other false b table = Unit {0}
+-- after `build` a batch has it
+abbrev pub HasShot : Mode → Bool → Builder → Option Shot → Type 0
+HasShot mode.Batch true b shot = HasBuilt b shot
+HasShot mode.Batch false b shot = Unit {0}
+HasShot mode.Check built b shot = Unit {0}
 
 pub record IsSound (s : State) : Type 0 where
   pub problem : IsSoundProblem s.problem
   pub accepted : s.built ≡ true → finish_refusal s.problem ≡ None
-  pub claims : IsBehindBuild s.block s.built
-  pub table : HasTable s.form s.built s.problem s.table
+  pub claims : IsAfterBuild s.block s.built
+  pub reads : script_form s.mode ≡ Some s.form
+  pub shot : HasShot s.mode s.built s.problem s.shot

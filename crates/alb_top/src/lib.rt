@@ -1,12 +1,13 @@
-//! The top call of the program `albert`: words, an input and an output in, a status out.
+//! The top call of the program `albert`: words, a desk, an input and an output in, a status out.
 #![tactic(auto)]
 
-mod judge;
+mod asks;
 pub mod laws;
-mod question;
-mod reply;
+mod mode;
+mod response;
 mod run;
 mod script;
+mod statement;
 mod turn;
 mod write;
 

@@ -1,24 +1,26 @@
-ghost use Rattle.std.specs.Prelude.{◌≡◌, if◌then◌else◌, ◌≤◌, ◌<◌, IfOk, IfSome, IfNone, OnErr, MatchResult, IsTrue, true, false, List, ℕ, length, codes, sum};
-ghost use Rattle.alb_lex.specs.declared.token.Token.{Token};
-ghost use Rattle.alb_script.specs.Asked as asking;
-ghost use Rattle.alb_script.specs.Asked.{asked, view, Gives, HasRead, IsPlain, Build, Quit, IsRead};
-ghost use Rattle.alb_script.specs.Refusals.{refusal_text};
-ghost use Rattle.alb_top.specs.Script.{start, stated, tell, obey, Obeys, letters_of, total_of, RefusedLine, Nothing, Judged, begins_claim, begins_block};
-ghost use Rattle.alb_evidence.specs.Words.{ends_word};
-ghost use Rattle.alb_lex.specs.Lexing.{is_blank};
-ghost use Rattle.alb_top.specs.Sound.{IsSoundProblem};
-ghost use Rattle.alb_top.specs.View.{answer, judgement, IsAnswer, IsStatement, IsTimely, IsOrder, IsProgram, IsQuestion, AsksFor, MayBeAsked, CanBeWritten, of_problem, of_command, asks_of};
+//! A script as far as it was read, and what its commands make of it.
+ghost use Rattle.std.specs.Prelude.{◌≡◌, ◌≤◌, IfOk, IfErr, IfSome, IfNone, Some, None, true, false, length, sum};
+ghost use Rattle.alb_problem.specs.Problem.{IsAccepted};
+ghost use Rattle.alb_problem.specs.Sound.{IsSoundProblem};
+ghost use Rattle.alb_script.specs.Asked.{asked, view, command_word, or_error, Gives, HasRead, IsPlain, Build, Quit};
+ghost use Rattle.alb_judge.specs.Views.{judgement};
+ghost use Rattle.alb_question.specs.Views.{shot_of};
+ghost use Rattle.alb_top.specs.Modes.{script_form};
+ghost use Rattle.alb_top.specs.Response.{Nothing, Judged, Refused};
+ghost use Rattle.alb_top.specs.Script.{start, respond, obey, Obeys, letters_of, total_of};
+ghost use Rattle.alb_top.specs.View.{response_of, refusal_of, state_at, IsWritable, IsWritten, CanBeWritten, Begins, IsStatement, IsTimely, IsOrder, IsQuestion, AsksFor, MayBeAsked};
 
-use crate::question::{begin, reply_to};
-use crate::reply::{Reply, Topic, Verdict};
-use alb_lex::Token;
+use crate::asks::{Asks, asks_of, question_in, refused};
+use crate::mode::Mode;
+use crate::response::Response;
+use crate::statement::state_problem;
+use alb_judge::Verdict;
 use alb_mono::{Letters, NoMemory};
-use alb_poly::Poly;
-use alb_problem::{FinishError, Problem, ProblemBuilder, ProblemError};
-use alb_script::{Command, CommandError, Form, Refusal, read_command};
+use alb_problem::{FinishError, Problem, ProblemBuilder};
+use alb_question::{Topic, answer_question, build_topic};
+use alb_script::{BadCommand, Command, Form, Refusal, ScriptPlace, read_line};
 use gf_field::Field;
 use std::alloc::Global;
-use std::sync::Arc;
 
 /// How far a script has come.
 #[derive(Drop)]
@@ -28,168 +30,45 @@ pub enum Stage {
     /// Claims are made about the problem.
     Claiming(Problem),
     /// Questions are asked about the problem, by its table.
-    Asking(Arc<Topic>),
+    Asking(Topic),
 }
 
-fn name_field(builder: &mut ProblemBuilder, p: u64) -> Reply
-    ensures told { (answer result, builder.new) ≡ stated builder.old (asking.Field p) }
-    ensures fine { IsAnswer result }
+// What stands after the end of an accepted problem, and the response: a batch builds its table.
+fn begin(alloc: Global, mode: Mode, problem: Problem) -> Result<(Response, Stage), NoMemory>
+    requires { IsAccepted problem }
+    ensures { IfOk result (λ r. Begins mode problem r.0 r.1) }
 {
-    match builder.set_field(p) {
-        Ok(()) => Reply::Ok,
-        Err(error) => Reply::Refused(Refusal::Problem(error)),
+    match mode {
+        Mode::Batch => Ok((Response::Built, Stage::Asking(build_topic(alloc, problem)?))),
+        Mode::Check => Ok((Response::Ready, Stage::Claiming(problem))),
     }
 }
 
-fn name_generators(builder: &mut ProblemBuilder, tokens: &[Token], end: u32) -> Reply
-    ensures told { (answer result, builder.new) ≡ stated builder.old (asking.Generators tokens.now end) }
-    ensures fine { IsAnswer result }
-{
-    match builder.set_generators(tokens, end) {
-        Ok(()) => Reply::Ok,
-        Err(error) => Reply::Refused(Refusal::Problem(error)),
-    }
-}
-
-// The answer to an error of the problem.
-fn refusal(error: ProblemError) -> Result<Reply, NoMemory>
-    ensures { result ≡ of_problem error }
-{
-    match error {
-        ProblemError::NoMemory => Err(NoMemory),
-        error => Ok(Reply::Refused(Refusal::Problem(error))),
-    }
-}
-
-fn add_identity(builder: &mut ProblemBuilder, f: Poly) -> Result<Reply, NoMemory>
-    requires { IsRead builder.old.field 26 f }
-    ensures told { IfOk result (λ r. (answer r, builder.new) ≡ stated builder.old (asking.Identity f)) }
-    ensures fine { IfOk result (λ r. IsAnswer r) }
-    ensures unchanged { OnErr result (builder.new ≡ builder.old) }
-{
-    match builder.add_identity(f) {
-        Ok(number) => Ok(Reply::Identity(number)),
-        Err(error) => refusal(error),
-    }
-}
-
-// Takes a statement about the problem.
-fn state(builder: &mut ProblemBuilder, command: Command) -> Result<Reply, NoMemory>
-    requires statement { IsStatement (view command) }
-    requires read { HasRead builder.old.field 0 command }
-    ensures told { IfOk result (λ r. (answer r, builder.new) ≡ stated builder.old (view command)) }
-    ensures fine { IfOk result (λ r. IsAnswer r) }
-    ensures unchanged { OnErr result (builder.new ≡ builder.old) }
-{
-    match command {
-        Command::Field(p) => Ok(name_field(builder, p)),
-        Command::Generators(tokens, end) => Ok(name_generators(builder, &tokens, end)),
-        Command::Identity(f) => add_identity(builder, f),
-        _ => unreachable!(),
-    }
-}
-
-// What a line of at most 65,536 bytes is, by the words that stand behind `build`.
+// What a line of at most 65,536 bytes is, by the words that stand after `build`.
 fn read_about(
     alloc: Global,
     line: &[u8],
     form: Form,
     problem: &Problem,
-) -> Result<Command, CommandError>
+) -> Result<Command, BadCommand>
     requires { length line.now ≤ 65536 }
-    ensures exact { Gives view result (asked form true (sum problem.now.rules.target) problem.now.rules.field problem.now.letters line.now) }
+    ensures exact { Gives view (or_error result) (asked form true (sum problem.now.rules.target) problem.now.rules.field problem.now.letters line.now) }
     ensures read { IfOk result (λ c. HasRead problem.now.rules.field (length problem.now.letters) c) }
-    ensures told { MatchResult result (λ c. Unit {0}) (λ e. IsPlain e) }
+    ensures told { IfErr result (λ bad. IsPlain bad.error) }
+    ensures word { IfErr result (λ bad. bad.word ≡ command_word form line.now) }
 {
-    read_command(
-        alloc,
-        line,
+    let place = ScriptPlace {
         form,
-        true,
-        problem.rules.target.degree(),
-        &problem.rules.field,
-        &problem.letters,
-    )
-}
-
-// What a command asks for.
-fn asks_of(command: Command) -> Asks
-    ensures { result ≡ asks_of command }
-{
-    match command {
-        Command::Claim(claim) => Asks::Claim(claim),
-        command => Asks::Command(command),
-    }
-}
-
-// A line that is no command that may stand here.
-fn refused(form: Form, line: &[u8], error: CommandError) -> Result<Asks, NoMemory>
-    ensures { result ≡ of_command (begins_block form line.now) error }
-{
-    match error {
-        CommandError::NoMemory => Err(NoMemory),
-        error => {
-            if begins_block(form, line) {
-                Ok(Asks::RefusedClaim(error))
-            } else {
-                Ok(Asks::Refusal(error))
-            }
-        }
-    }
-}
-
-fn is_blank(b: u8) -> bool
-    ensures { result ≡ is_blank b }
-{
-    b == b' ' || b == b'\t' || b == b'\r'
-}
-
-// Whether no word goes on.
-fn ends_word(text: &[u8]) -> bool
-    ensures { result ≡ ends_word text.now }
-{
-    match text.first() {
-        Some(b) => is_blank(*b),
-        None => true,
-    }
-}
-
-// Whether the first word is `claim`.
-fn begins_claim(line: &[u8]) -> bool
-    ensures { result ≡ begins_claim line.now }
-{
-    match line.split_first() {
-        None => false,
-        Some((b, rest)) if is_blank(*b) => begins_claim(rest),
-        Some(_) => line.starts_with(b"claim") && ends_word(&line[5..]),
-    }
-}
-
-// Whether a line of this form is followed by a block.
-fn begins_block(form: Form, line: &[u8]) -> bool
-    ensures { result ≡ begins_block form line.now }
-{
-    match form {
-        Form::Check => begins_claim(line),
-        _ => false,
-    }
-}
-
-/// What a line asks for.
-pub enum Asks {
-    /// A command other than a claim.
-    Command(Command),
-    /// A claim, whose block follows.
-    Claim(Poly),
-    /// Nothing: the line is no command that may stand here.
-    Refusal(CommandError),
-    /// The same of a line that begins with `claim`, whose block follows.
-    RefusedClaim(CommandError),
+        built: true,
+        total: problem.rules.target.degree(),
+    };
+    read_line(alloc, line, place, &problem.rules.field, &problem.letters)
 }
 
 /// A script as far as it was read.
 #[derive(Drop)]
 pub struct Script {
+    mode: Mode,
     form: Form,
     stage: Stage,
     closed: bool,
@@ -197,15 +76,16 @@ pub struct Script {
 }
 
 impl Script {
-    ghost use Rattle.alb_top.specs.Script.{State};
     ghost use Rattle.alb_top.specs.View.{state, IsScript};
 
-    pub fn new(alloc: Global, form: Form) -> Script
-        requires { IsProgram form }
-        ensures value { state result ≡ start form }
+    /// The script of a mode that reads scripts of this form, before its first line.
+    pub fn new(alloc: Global, mode: Mode, form: Form) -> Script
+        requires { script_form mode ≡ Some form }
+        ensures value { state result ≡ start mode form }
         ensures script { IsScript result }
     {
         Script {
+            mode,
             form,
             stage: Stage::Stating(ProblemBuilder::new(alloc)),
             closed: false,
@@ -217,12 +97,24 @@ impl Script {
     pub fn problem(&self) -> Option<&Problem>
         requires { IsScript self.now }
         ensures some { IfSome result (λ q. self.now.stage ≡ Stage.Claiming q.now) }
-        ensures none { IfNone result ((state self.now).form ≡ Form.Check → (state self.now).built ≡ false) }
+        ensures none { IfNone result ((state self.now).mode ≡ Mode.Check → (state self.now).built ≡ false) }
     {
         match &self.stage {
             Stage::Stating(_) => None,
             Stage::Claiming(problem) => Some(problem),
             Stage::Asking(_) => None,
+        }
+    }
+
+    /// The problem of a batch with its table, where it is built.
+    pub fn topic(&self) -> Option<&Topic>
+        ensures some { IfSome result (λ t. self.now.stage ≡ Stage.Asking t.now) }
+        ensures none { IfNone result ((state self.now).shot ≡ None) }
+    {
+        match &self.stage {
+            Stage::Stating(_) => None,
+            Stage::Claiming(_) => None,
+            Stage::Asking(topic) => Some(topic),
         }
     }
 
@@ -240,28 +132,23 @@ impl Script {
         self.clean
     }
 
-    // The field, and the letters and the total degree of an accepted problem.
-    fn field(&self) -> &Field
-        ensures { result.now ≡ (state self.now).problem.field }
-    {
-        match &self.stage {
-            Stage::Stating(builder) => builder.field(),
-            Stage::Claiming(problem) => &problem.rules.field,
-            Stage::Asking(topic) => &topic.problem.rules.field,
-        }
-    }
-
     // What a line of at most 65,536 bytes is, by the words that stand here.
-    fn command(&self, alloc: Global, line: &[u8]) -> Result<Command, CommandError>
+    fn command(&self, alloc: Global, line: &[u8]) -> Result<Command, BadCommand>
         requires { length line.now ≤ 65536 }
-        ensures exact { Gives view result (asked (state self.now).form (state self.now).built (total_of (state self.now)) (state self.now).problem.field (letters_of (state self.now)) line.now) }
+        ensures exact { Gives view (or_error result) (asked (state self.now).form (state self.now).built (total_of (state self.now)) (state self.now).problem.field (letters_of (state self.now)) line.now) }
         ensures read { IfOk result (λ c. HasRead (state self.now).problem.field (length (letters_of (state self.now))) c) }
-        ensures told { MatchResult result (λ c. Unit {0}) (λ e. IsPlain e) }
+        ensures told { IfErr result (λ bad. IsPlain bad.error) }
+        ensures word { IfErr result (λ bad. bad.word ≡ command_word (state self.now).form line.now) }
     {
         match &self.stage {
             Stage::Stating(builder) => {
                 let unnamed = Letters::of(&[]);
-                read_command(alloc, line, self.form, false, 0, builder.field(), &unnamed)
+                let place = ScriptPlace {
+                    form: self.form,
+                    built: false,
+                    total: 0,
+                };
+                read_line(alloc, line, place, builder.field(), &unnamed)
             }
             Stage::Claiming(problem) => read_about(alloc, line, self.form, problem),
             Stage::Asking(topic) => read_about(alloc, line, self.form, &topic.problem),
@@ -276,55 +163,48 @@ impl Script {
     {
         match self.command(alloc, line) {
             Ok(command) => Ok(asks_of(command)),
-            Err(error) => refused(self.form, line, error),
+            Err(bad) => refused(bad),
         }
     }
 
-    /// The script behind a refused line, and the answer.
-    pub fn refuse(self, refusal: Refusal) -> (Reply, Script)
+    /// The script after a refused line, and the response.
+    pub fn refuse(self, refusal: Refusal) -> (Response, Script)
         requires written { CanBeWritten refusal }
         requires script { IsScript self }
-        ensures told { (answer result.0, state result.1) ≡ tell (RefusedLine (refusal_text refusal)) (state self) }
-        ensures fine { IsAnswer result.0 }
+        ensures told { (response_of result.0, state result.1) ≡ respond (Refused (refusal_of refusal)) (state self) }
+        ensures writable { IsWritable (state result.1) result.0 }
         ensures script { IsScript result.1 }
     {
-        let next = Script {
-            form: self.form,
-            stage: self.stage,
-            closed: self.closed,
-            clean: false,
-        };
-        (Reply::Refused(refusal), next)
+        let mut next = self;
+        next.clean = false;
+        (Response::Refused(refusal), next)
     }
 
-    /// The script behind the block of a claim, and the answer.
-    pub fn judged(self, verdict: Verdict) -> (Reply, Script)
+    /// The script after the block of a claim, and the response.
+    pub fn judged(self, verdict: Verdict) -> (Response, Script)
         requires script { IsScript self }
-        ensures reply { result.0 ≡ Reply.Judged verdict }
-        ensures told { (Judged (judgement verdict), state result.1) ≡ tell (Judged (judgement verdict)) (state self) }
+        ensures response { result.0 ≡ Response.Judged verdict }
+        ensures told { (Judged (judgement verdict), state result.1) ≡ respond (Judged (judgement verdict)) (state self) }
         ensures script { IsScript result.1 }
     {
         let is_accepted = verdict.is_accepted();
-        let next = Script {
-            form: self.form,
-            stage: self.stage,
-            closed: self.closed,
-            clean: is_accepted && self.clean,
-        };
-        (Reply::Judged(verdict), next)
+        let mut next = self;
+        next.clean = is_accepted && next.clean;
+        (Response::Judged(verdict), next)
     }
 
-    // The script behind a statement about the problem, and the answer.
-    fn state(self, command: Command) -> Result<(Reply, Script), NoMemory>
+    // The script after a statement about the problem, and the response.
+    fn state(self, command: Command) -> Result<(Response, Script), NoMemory>
         requires statement { IsStatement (view command) }
-        requires program { IsProgram (state self).form }
+        requires script { IsScript self }
         requires stating { (state self).built ≡ false }
         requires read { HasRead (state self).problem.field (length (letters_of (state self))) command }
-        ensures told { IfOk result (λ r. (answer r.0, state r.1) ≡ obey (state self) (view command)) }
-        ensures fine { IfOk result (λ r. IsAnswer r.0) }
+        ensures told { IfOk result (λ r. (response_of r.0, state r.1) ≡ obey (state self) (view command)) }
+        ensures written { IfOk result (λ r. IsWritten r.0) }
         ensures script { IfOk result (λ r. IsScript r.1) }
     {
         let Script {
+            mode,
             form,
             stage,
             closed,
@@ -333,79 +213,80 @@ impl Script {
         let Stage::Stating(mut builder) = stage else {
             unreachable!();
         };
-        let reply = state(&mut builder, command)?;
-        let is_clean = reply.is_clean();
+        let response = state_problem(&mut builder, command)?;
+        let is_clean = response.is_clean();
         let next = Script {
+            mode,
             form,
             stage: Stage::Stating(builder),
             closed,
             clean: is_clean && clean,
         };
-        Ok((reply, next))
+        Ok((response, next))
     }
 
-    /// The script behind a command other than a claim, and the answer.
-    pub fn obey(self, alloc: Global, command: Command) -> Result<(Reply, Script), NoMemory>
+    /// The script after a command other than a claim, and the response.
+    pub fn obey(self, alloc: Global, command: Command) -> Result<(Response, Script), NoMemory>
         requires order { IsOrder (view command) }
         requires timely { IsTimely (state self).form (state self).built (view command) }
         requires read { HasRead (state self).problem.field (length (letters_of (state self))) command }
         requires script { IsScript self }
         requires sound { IsSoundProblem (state self).problem }
-        ensures told { IfOk result (λ r. Obeys (state self) (view command) (answer r.0) (state r.1)) }
-        ensures fine { IfOk result (λ r. IsAnswer r.0) }
+        ensures told { IfOk result (λ r. Obeys (state self) (view command) (response_of r.0) (state r.1)) }
+        ensures writable { IfOk result (λ r. IsWritable (state r.1) r.0) }
         ensures script { IfOk result (λ r. IsScript r.1) }
     {
         match command {
-            Command::Blank => Ok((Reply::Nothing, self)),
+            Command::Blank => Ok((Response::Nothing, self)),
             Command::Build => self.build(alloc),
-            Command::Quit => Ok((Reply::Nothing, self.close())),
-            Command::Polynomial(_) | Command::Prove(_) | Command::Dimensions | Command::Table =>
-                self.answer(alloc, command),
+            Command::Quit => Ok((Response::Nothing, self.close())),
+            Command::Polynomial(_) | Command::Prove(_) | Command::Dimensions | Command::Table => {
+                self.answer(alloc, command)
+            }
             statement => self.state(statement),
         }
     }
 
-    // The script behind a question, and the answer.
-    fn answer(self, alloc: Global, command: Command) -> Result<(Reply, Script), NoMemory>
+    // The script after a question, and the response.
+    fn answer(self, alloc: Global, command: Command) -> Result<(Response, Script), NoMemory>
         requires question { IsQuestion (view command) }
         requires timely { IsTimely (state self).form (state self).built (view command) }
         requires read { HasRead (state self).problem.field (length (letters_of (state self))) command }
         requires script { IsScript self }
         requires sound { IsSoundProblem (state self).problem }
-        ensures told { IfOk result (λ r. Obeys (state self) (view command) (answer r.0) (state r.1)) }
-        ensures fine { IfOk result (λ r. IsAnswer r.0) }
+        ensures told { IfOk result (λ r. Obeys (state self) (view command) (response_of r.0) (state r.1)) }
+        ensures writable { IfOk result (λ r. IsWritable (state r.1) r.0) }
         ensures script { IfOk result (λ r. IsScript r.1) }
     {
         let Stage::Asking(topic) = &self.stage else {
             unreachable!();
         };
-        let reply = reply_to(alloc, topic, &command)?;
-        Ok((reply, self))
+        let question = question_in(command);
+        let finding = answer_question(alloc, &topic.problem.rules, &topic.tables, &question)?;
+        Ok((Response::Found(finding), self))
     }
 
-    // The script behind its end.
+    // The script after its end.
     fn close(self) -> Script
         requires script { IsScript self }
         ensures told { (Nothing, state result) ≡ obey (state self) Quit }
         ensures script { IsScript result }
     {
-        Script {
-            form: self.form,
-            stage: self.stage,
-            closed: true,
-            clean: self.clean,
-        }
+        let mut next = self;
+        next.closed = true;
+        next
     }
 
-    // The script behind the end of the problem, and the answer.
-    fn build(self, alloc: Global) -> Result<(Reply, Script), NoMemory>
-        requires program { IsProgram (state self).form }
+    // The script after the end of the problem, and the response.
+    fn build(self, alloc: Global) -> Result<(Response, Script), NoMemory>
+        requires script { IsScript self }
         requires stating { (state self).built ≡ false }
-        ensures told { IfOk result (λ r. Obeys (state self) Build (answer r.0) (state r.1)) }
-        ensures fine { IfOk result (λ r. IsAnswer r.0) }
+        ensures told { IfOk result (λ r. Obeys (state self) Build (response_of r.0) (state r.1)) }
+        ensures writable { IfOk result (λ r. IsWritable (state r.1) r.0) }
         ensures script { IfOk result (λ r. IsScript r.1) }
     {
         let Script {
+            mode,
             form,
             stage,
             closed,
@@ -416,23 +297,25 @@ impl Script {
         };
         match builder.finish() {
             Ok(problem) => {
-                let (reply, stage) = begin(alloc, form, problem)?;
+                let (response, stage) = begin(alloc, mode, problem)?;
                 let next = Script {
+                    mode,
                     form,
                     stage,
                     closed,
                     clean,
                 };
-                Ok((reply, next))
+                Ok((response, next))
             }
             Err(FinishError { builder, error }) => {
                 let next = Script {
+                    mode,
                     form,
                     stage: Stage::Stating(builder),
                     closed,
                     clean: false,
                 };
-                Ok((Reply::Refused(Refusal::Problem(error)), next))
+                Ok((Response::Refused(Refusal::Problem(error)), next))
             }
         }
     }

@@ -3,39 +3,40 @@ ghost use Rattle.alb_io.specs.Causes.{Rose};
 ghost use Rattle.alb_poly.specs.Poly.{AreResidues};
 ghost use Rattle.alb_problem.specs.Problem.{problem, IsAccepted};
 ghost use Rattle.alb_script.specs.Asked.{IsRead, view};
-ghost use Rattle.alb_script.specs.Refusals.{command_text};
-ghost use Rattle.alb_top.specs.Script.{RefusedLine, letters_of};
+ghost use Rattle.alb_top.specs.Script.{letters_of};
 ghost use Rattle.alb_top.specs.Sound.{IsSound};
-ghost use Rattle.alb_top.specs.View.{state, answer, IsScript, IsAnswer, CanBeWritten, MayBeAsked};
-ghost use Rattle.alb_top.specs.Going.{TakesTurn, TakesAsked, IsFine, claimed, refused};
+ghost use Rattle.alb_top.specs.View.{state, IsScript, CanBeWritten, MayBeAsked};
+ghost use Rattle.alb_top.specs.Turns.{TakesTurn, TakesAsked, IsFine, claimed, skipping};
 
-use crate::judge::{Judged, judge};
-use crate::reply::{Reply, Verdict};
-use crate::script::{Asks, Script};
+use crate::asks::Asks;
+use crate::mode::Mode;
+use crate::response::Response;
+use crate::script::Script;
 use alb_evidence::{SkipError, read_evidence, skip_evidence};
 use alb_io::{LineReader, LineStep, NoMemory, Source};
+use alb_judge::{Judged, judge};
 use alb_poly::Poly;
-use alb_script::{CommandError, Form, Refusal};
+use alb_script::{CommandError, Refusal};
 use std::alloc::Global;
 
-/// What came of a turn: the answer to a line, or to the end of the lines, with the script behind it; or that there is no
+/// What came of a turn: the response to a line, or to the end of the lines, with the script after it; or that there is no
 /// line to answer.
 pub enum Taken {
-    Reply(Reply, Script),
-    Last(Reply, Script),
+    Response(Response, Script),
+    Last(Response, Script),
     ReadFault,
     InputLimit,
     NoMemory,
 }
 
-// An answer to a line, or to the end of the lines.
-fn answered(reply: Reply, script: Script, ended: bool) -> Taken
-    ensures { result ≡ (if ended then Taken.Last reply script else Taken.Reply reply script) }
+// A response to a line, or to the end of the lines.
+fn answered(response: Response, script: Script, ended: bool) -> Taken
+    ensures { result ≡ (if ended then Taken.Last response script else Taken.Response response script) }
 {
     if ended {
-        Taken::Last(reply, script)
+        Taken::Last(response, script)
     } else {
-        Taken::Reply(reply, script)
+        Taken::Response(response, script)
     }
 }
 
@@ -51,7 +52,7 @@ fn take_claim<S: Source>(
     requires script { IsScript script }
     requires going { (state script).closed ≡ false }
     requires sound { IsSound (state script) }
-    requires check { (state script).form ≡ Form.Check }
+    requires check { (state script).mode ≡ Mode.Check }
     requires built { (state script).built ≡ true }
     requires read { IsRead (state script).problem.field (length (letters_of (state script))) claim.now }
     ensures takes { TakesTurn result reader.old reader.new (claimed claim.now (state script)) (S.left input.old) (S.left input.new) }
@@ -66,8 +67,8 @@ fn take_claim<S: Source>(
     let given = read_evidence(alloc, reader, input, &problem.rules.field, &problem.letters);
     match judge(alloc, problem, claim, given) {
         Judged::Verdict(verdict) => {
-            let (reply, next) = script.judged(verdict);
-            answered(reply, next, reader.ended())
+            let (response, next) = script.judged(verdict);
+            answered(response, next, reader.ended())
         }
         Judged::ReadFault => Taken::ReadFault,
         Judged::InputLimit => Taken::InputLimit,
@@ -86,7 +87,7 @@ fn skip_claim<S: Source>(
     requires script { IsScript script }
     requires going { (state script).closed ≡ false }
     requires error { CanBeWritten (Refusal.Command error) }
-    ensures takes { TakesTurn result reader.old reader.new (refused (command_text error) (state script)) (S.left input.old) (S.left input.new) }
+    ensures takes { TakesTurn result reader.old reader.new (skipping error (state script)) (S.left input.old) (S.left input.new) }
     ensures fine { IsFine result }
     ensures later { S.faults input.old ≤ S.faults input.new }
     ensures fault { result ≡ Taken.ReadFault → Rose (S.faults input.old) (S.faults input.new) }
@@ -94,8 +95,8 @@ fn skip_claim<S: Source>(
 {
     match skip_evidence(reader, input) {
         Ok(()) => {
-            let (reply, next) = script.refuse(Refusal::Command(error));
-            answered(reply, next, reader.ended())
+            let (response, next) = script.refuse(Refusal::Command(error));
+            answered(response, next, reader.ended())
         }
         Err(SkipError::ReadFault) => Taken::ReadFault,
         Err(SkipError::InputLimit) => Taken::InputLimit,
@@ -123,13 +124,13 @@ fn take_asked<S: Source>(
 {
     match asks {
         Asks::Command(command) => match script.obey(alloc, command) {
-            Ok((reply, next)) => Taken::Reply(reply, next),
+            Ok((response, next)) => Taken::Response(response, next),
             Err(NoMemory) => Taken::NoMemory,
         },
         Asks::Claim(claim) => take_claim(alloc, reader, script, input, &claim),
         Asks::Refusal(error) => {
-            let (reply, next) = script.refuse(Refusal::Command(error));
-            Taken::Reply(reply, next)
+            let (response, next) = script.refuse(Refusal::Command(error));
+            Taken::Response(response, next)
         }
         Asks::RefusedClaim(error) => skip_claim(reader, script, input, error),
     }
@@ -158,10 +159,10 @@ pub fn take_turn<S: Source>(
             Err(NoMemory) => Taken::NoMemory,
         },
         LineStep::TooLong => {
-            let (reply, next) = script.refuse(Refusal::TooLong);
-            Taken::Reply(reply, next)
+            let (response, next) = script.refuse(Refusal::TooLong);
+            Taken::Response(response, next)
         }
-        LineStep::End => Taken::Last(Reply::Nothing, script),
+        LineStep::End => Taken::Last(Response::Nothing, script),
         LineStep::ReadFault => Taken::ReadFault,
         LineStep::InputLimit => Taken::InputLimit,
     }

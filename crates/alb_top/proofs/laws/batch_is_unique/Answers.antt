@@ -2,4 +2,4 @@ use Rattle.alb_top.proofs.UniqueBatch.{batch-unique}
 use Rattle.alb_top.proofs.laws.batch_is_unique.Goals as goal
 
 pub returns : goal.returns
-returns c lines t u last end a b = batch-unique lines t u last end a b
+returns c = batch-unique

@@ -2,4 +2,4 @@ use Rattle.alb_top.proofs.UniqueCheck.{check-unique}
 use Rattle.alb_top.proofs.laws.check_is_unique.Goals as goal
 
 pub returns : goal.returns
-returns c lines t u last end a b = check-unique lines t u last end a b
+returns c = check-unique

@@ -2,4 +2,4 @@ use Rattle.alb_top.proofs.AcceptedLemmas.{evidence-is-accepted}
 use Rattle.alb_top.proofs.laws.evidence_is_accepted.Goals as goal
 
 pub returns : goal.returns
-returns c old new line text g reached asks st = evidence-is-accepted old new line text g reached asks st
+returns c = evidence-is-accepted

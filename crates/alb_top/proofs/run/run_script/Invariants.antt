@@ -1,11 +1,11 @@
 use Rattle.std.proofs.Common.{◌≡◌, ◌≤◌, ◌+◌, false, length}
 use Rattle.alb_top.specs.View.{state, IsScript}
-use Rattle.alb_top.specs.Going.{Going}
+use Rattle.alb_top.specs.Turns.{Going}
 use Rattle.alb_top.proofs.run.run_script.Given as goal
 
 abbrev pub invariant-turns : goal.invariant-turns
 invariant-turns g l = record {
-  going : Going (state l.fn.first).form l.reader (state l.script) (g.S.Source.left l.fn.input) (g.S.Source.left l.input) (g.K.Sink.taken l.fn.output) (g.K.Sink.taken l.output);
+  going : Going (state l.fn.first) l.reader (state l.script) (g.S.Source.left l.fn.input) (g.S.Source.left l.input) (g.K.Sink.taken l.fn.output) (g.K.Sink.taken l.output);
   runs : (state l.script).closed ≡ false;
   script : IsScript l.script;
   not_ended : l.reader.ended ≡ false;

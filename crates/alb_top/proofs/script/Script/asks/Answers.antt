@@ -1,8 +1,9 @@
 use Rattle.std.proofs.Common.{Result, Ok, Err, subst, sym}
 use Rattle.std.specs.Prelude.{IfOk}
 use Rattle.alb_mono.specs.declared.error.NoMemory.{NoMemory}
-use Rattle.alb_top.specs.View.{state, AsksFor, MayBeAsked}
-use Rattle.alb_top.specs.declared.script.Asks.{Asks}
+use Rattle.alb_top.specs.Script.{is_claim}
+use Rattle.alb_top.specs.View.{state, AsksFor, MayBeAsked, refused_as}
+use Rattle.alb_top.specs.declared.asks.Asks.{Asks}
 use Rattle.alb_top.proofs.AsksLemmas.{command-asks, command-may, refusal-asks}
 use Rattle.alb_top.proofs.script.Script.asks.Goals as goal
 
@@ -25,7 +26,8 @@ second_parts (Err e) P Q h = tt
 pub returns-in-Err : goal.returns-in-Err
 returns-in-Err c =
     let s = state c.args.self.now in
-    let h = subst (λ (r : Result Asks NoMemory). IfOk r (λ a. AsksFor a s c.args.line.now × MayBeAsked a s)) (sym c.refused.ensures) (refusal-asks c.in-Err.error s c.args.line.now c.in-Err.ensures.exact c.in-Err.ensures.told) in
+    let h = subst (λ (r : Result Asks NoMemory). IfOk r (λ a. AsksFor a s c.args.line.now × MayBeAsked a s)) (sym c.refused.ensures) (subst (λ w. IfOk (refused_as (is_claim w) c.in-Err.bad.error) (λ a. AsksFor a s c.args.line.now × MayBeAsked a s)) (sym c.in-Err.ensures.word)
+    (refusal-asks c.in-Err.bad.error s c.args.line.now c.in-Err.ensures.exact c.in-Err.ensures.told)) in
     record {
       asks = first_parts c.refused.result (λ a. AsksFor a s c.args.line.now) (λ a. MayBeAsked a s) h;
       timely = second_parts c.refused.result (λ a. AsksFor a s c.args.line.now) (λ a. MayBeAsked a s) h;

@@ -1,0 +1,5 @@
+pub mod Shot
+pub mod Question
+pub mod Meaning
+pub mod Views
+pub mod Laws
