@@ -7,13 +7,11 @@ use Rattle.std.proofs.lemmas.List.Concat.{flat_map-cons}
 use Rattle.std.proofs.lemmas.Grind.{flat_map-append}
 use Rattle.gf_sums.specs.Sums.{reindex}
 use Rattle.alb_mono.specs.Listing.{Each}
-use Rattle.alb_mono.specs.Tree.{Tree}
-use Rattle.alb_mono.specs.Types.{rising}
+use Rattle.alb_mono.specs.Tree.{Tree, rising}
 use Rattle.alb_rows.specs.Row.{Cells, comb}
-use Rattle.alb_table.specs.Grid.{rectangle, cells_of, ArePairsBelow}
+use Rattle.alb_table.specs.Grid.{cells_of, ArePairsBelow}
+use Rattle.alb_table.specs.Table.{rectangle, PartView, mono_at, part_at, entry_of}
 use Rattle.alb_table.specs.declared.grid.Grid.{Grid}
-use Rattle.alb_table.specs.PartView.{PartView, mono_at, part_at}
-use Rattle.alb_table.specs.Entry.{entry_of}
 use Rattle.alb_print.specs.Text.{leading_text, later_text, poly_text}
 use Rattle.alb_answer.specs.Answers.{cells_poly, entry_poly, row_pairs}
 use Rattle.alb_print.proofs.Pieces.{flat-at, flat-get}

@@ -2,14 +2,11 @@
 use Rattle.std.specs.Prelude.{ℕ, ◌<◌, All, List, [], ◌++◌, false, length, map, reverse, codes}
 use Rattle.std.specs.List.{flat_map}
 use Rattle.gf_sums.specs.Sums.{reindex}
-use Rattle.alb_mono.specs.Tree.{node}
-use Rattle.alb_mono.specs.Types.{rising}
+use Rattle.alb_mono.specs.Tree.{node, rising}
 use Rattle.alb_poly.specs.Poly.{Poly}
 use Rattle.alb_print.specs.Text.{named, mono_text, poly_text, type_text}
 use Rattle.alb_rows.specs.Row.{Cells, comb, ColumnsBelow}
-use Rattle.alb_table.specs.PartView.{PartView, mono_at}
-use Rattle.alb_table.specs.Entry.{products, table_product}
-use Rattle.alb_table.specs.Table.{Table, count_products}
+use Rattle.alb_table.specs.Table.{PartView, mono_at, products, table_product, Table, count_products}
 use Rattle.alb_table.specs.End.{End, Complete, TooWide, TooManyProducts, TooManyCoefficients, NoMemory}
 use Rattle.alb_query.specs.Answer.{Answer, Zero, NotZero, NotBuilt, OutOfType}
 

@@ -2,8 +2,7 @@
 
 ghost use Rattle.std.specs.Prelude.{◌++◌, IsTrue, All, codes, false, length};
 ghost use Rattle.alb_io.specs.Writes.{Writes};
-ghost use Rattle.alb_mono.specs.Mono.{tree};
-ghost use Rattle.alb_mono.specs.Tree.{are_below};
+ghost use Rattle.alb_mono.specs.Tree.{tree, are_below};
 ghost use Rattle.alb_poly.specs.Poly.{AreResidues};
 ghost use Rattle.alb_print.specs.Text.{mono_text, named, poly_text, type_text};
 ghost use Rattle.alb_table.specs.End.{end_of};

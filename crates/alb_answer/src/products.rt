@@ -6,7 +6,7 @@ ghost use Rattle.alb_io.specs.Writes.{Writes};
 ghost use Rattle.alb_mono.specs.Tree.{node};
 ghost use Rattle.alb_print.specs.Text.{mono_text, leading_text, later_text, poly_text};
 ghost use Rattle.alb_table.specs.Grid.{ArePairsBelow, cells_of};
-ghost use Rattle.alb_table.specs.PartView.{elems, mono_at, part_view};
+ghost use Rattle.alb_table.specs.Table.{elems, mono_at, part_view};
 ghost use Rattle.alb_answer.specs.Answers.{AreCells, heading, dimension_line, dimension_lines, cells_poly, entry_poly, row_pairs, product_line, part_lines, product_lines};
 
 use crate::answer::write_degree;

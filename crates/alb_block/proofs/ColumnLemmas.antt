@@ -4,28 +4,23 @@ use Rattle.std.specs.Ordering.{flip_args}
 use Rattle.std.specs.declared.cmp.Ordering.{Ordering}
 use Rattle.std.specs.declared.cmp.Ordering.TheVariants.{Less}
 use Rattle.alb_mono.specs.Listing.{Each, IsIn, Ascends}
-use Rattle.alb_mono.specs.Tree.{Tree, node, degree, type_of, type_plus, cmp_types, cmp_trees, are_below, AreBelow}
-use Rattle.alb_mono.specs.Types.{rising, splits, IsSplit}
+use Rattle.alb_mono.specs.Tree.{Tree, node, degree, type_of, type_plus, cmp_types, cmp_trees, are_below, AreBelow, rising, splits, IsSplit}
 use Rattle.alb_mono.proofs.ListingLemmas.{each-member, each-map, ascends-append, in-map}
 use Rattle.alb_mono.proofs.Leaves.{below_from_test, length-type_of, sum-type_of}
 use Rattle.alb_mono.proofs.TypesListing.{splits-listing}
 use Rattle.alb_poly.specs.Instance.{Form}
-use Rattle.alb_table.specs.PartView.{PartView, first_of, dim_of, elems, monos, mono_at}
-use Rattle.alb_table.specs.Grid.{rectangle}
-use Rattle.alb_table.specs.Entry.{products, products_of}
-use Rattle.alb_table.specs.Table.{Table, IsTable}
+use Rattle.alb_table.specs.Table.{PartView, first_of, dim_of, elems, monos, mono_at, rectangle, products, products_of, Table, IsTable}
 use Rattle.alb_table.specs.Right.{IsOfType, IsRight, IsTypeTo}
 use Rattle.alb_table.specs.RightTable.{basis_monos, mono_entry}
 use Rattle.alb_table.specs.Block.{IsColumnAt}
 use Rattle.alb_table.specs.Columns.{AreColumns}
 use Rattle.alb_table.proofs.Types.{type-listed}
 use Rattle.alb_table.proofs.Within.{of_type-same, degree-positive}
-use Rattle.alb_table.proofs.RangeLemmas.{InRange, type_of_range, product_of, product_in}
+use Rattle.alb_table.proofs.RangeLemmas.{InRange, type_of_range, product_of, product_in, rising_bounds}
 use Rattle.alb_table.proofs.RightTables.{length-monos, number-type, number-basis, basis-number, numbers-ascend, type-to}
 use Rattle.alb_block.specs.Instances.{columns_of}
 use Rattle.alb_block.specs.Meaning.{column_monos}
 use Rattle.alb_table.proofs.TableLemmas.{each-in}
-use Rattle.alb_table.proofs.RangeLemmas.{rising_bounds}
 use Rattle.alb_block.proofs.ListLemmas.{in-reverse, each-reverse, descends, sorted-from, contains-in, ascends-mapped, in-parts, in-mapped}
 use Rattle.alb_block.proofs.OrderLemmas.{types-order, less-by-type, less-by-left, less-by-right}
 use Rattle.alb_poly.proofs.Falling.{type_of-node}

@@ -2,11 +2,10 @@
 use Rattle.std.proofs.Common.{◌≡◌, ℕ, ◌+◌, ◌%◌, ◌<◌, ◌≤◌, false, List, [], ◌∷◌, ◌++◌, map, length, sym, refl, ap, ◌∙◌, subst, arith, inl, inr}
 use Rattle.std.specs.List.{flat_map}
 use Rattle.std.proofs.lemmas.List.{length-reverse}
-use Rattle.gf_field.specs.Primes.{IsInTable}
-use Rattle.gf_field.specs.Modular.{IsSameMod}
+use Rattle.gf_field.specs.Modular.{IsInTable, IsSameMod}
 use Rattle.gf_field.proofs.Mod.{same, of_mod, ◌⊙◌}
 use Rattle.alb_mono.specs.Listing.{Each, IsIn}
-use Rattle.alb_mono.specs.Types.{rising, IsTypeWithin}
+use Rattle.alb_mono.specs.Tree.{rising, IsTypeWithin}
 use Rattle.alb_mono.proofs.ListingLemmas.{each-member, in-map, in-flat}
 use Rattle.alb_poly.specs.Instance.{Form}
 use Rattle.alb_poly.specs.Consequence.{form_at, AreMultilinear}
@@ -14,13 +13,12 @@ use Rattle.alb_rows.specs.Row.{Cells, entry}
 use Rattle.alb_rows.specs.Span.{InSpan, SpanWithin, rows_of}
 use Rattle.alb_rows.proofs.SpanLemmas.{span_one, span_through}
 use Rattle.alb_reduce.specs.Reduction.{Reduction}
-use Rattle.alb_reduce.specs.Echelon.{IsKept}
+use Rattle.alb_reduce.specs.Echelon.{AreKeptRows}
 use Rattle.alb_reduce.proofs.DiagonalLemmas.{zero_mod}
 use Rattle.alb_reduce.proofs.EchelonLemmas.{positive, kept_more, adds_pivot, span_dependent}
-use Rattle.alb_table.specs.Entry.{products}
+use Rattle.alb_table.specs.Table.{products, Table, IsTable}
 use Rattle.alb_table.specs.Right.{AreHigh}
 use Rattle.alb_table.specs.RightTable.{IsRightTable}
-use Rattle.alb_table.specs.Table.{Table, IsTable}
 use Rattle.alb_table.proofs.FirstLemmas.{few_generators}
 use Rattle.alb_table.proofs.GeneratorLemmas.{above_one}
 use Rattle.alb_subst.specs.Ranges.{tuples, ranges}
@@ -28,7 +26,7 @@ use Rattle.alb_subst.specs.Sums.{instance_row}
 use Rattle.alb_subst.specs.Tuples.{IsTupleOf, AreTuples}
 use Rattle.alb_subst.proofs.TupleLaw.{tuples-are}
 use Rattle.alb_block.specs.Asked.{setting_of, IsBlock}
-use Rattle.alb_block.specs.Instances.{columns_of, Setting, IsInstance, instance_vector, SpansInstances, AreOrigins}
+use Rattle.alb_block.specs.Instances.{columns_of, BlockSetting, IsInstance, instance_vector, SpansInstances, AreOrigins}
 use Rattle.alb_block.specs.Meaning.{IsBlockAt}
 use Rattle.alb_block.specs.Offers.{IsRowOf, AreKept, HasMore}
 use Rattle.alb_block.specs.View.{BlockView}
@@ -42,28 +40,28 @@ use Rattle.alb_block.proofs.Reductions.{HasPivot, offered-row, kept-none, kept-p
 use Rattle.alb_block.proofs.Vectors.{cells_of, entry-cells, cells-over, cells-below}
 
 -- how many products the type has
-abbrev pub width_of : Setting → ℕ
+abbrev pub width_of : BlockSetting → ℕ
 width_of s = length (columns_of s.parts s.at)
 
 -- rows as a reduced form
-abbrev pub reduction_of : Setting → List Cells → Reduction
+abbrev pub reduction_of : BlockSetting → List Cells → Reduction
 reduction_of s rows = record { p = s.p; columns = width_of s; rows = rows; tags = []; keeps_recipes = false; offers = [] }
 
 -- rows with the span of some instances, as many as there are rows
-pub record HasRows (s : Setting) : Type 0 where
+pub record HasRows (s : BlockSetting) : Type 0 where
   pub order : List ℕ
   pub rows : List Cells
   pub names : List (ℕ × List ℕ)
-  pub kept : IsKept s.p (width_of s) order rows
+  pub kept : AreKeptRows s.p (width_of s) order rows
   pub are : AreKept s (reduction_of s rows) names
 
 -- rows whose span has grown by instances
-record HasAll (s : Setting) (old : HasRows s) (todo : List (ℕ × List ℕ)) : Type 0 where
+record HasAll (s : BlockSetting) (old : HasRows s) (todo : List (ℕ × List ℕ)) : Type 0 where
   new : HasRows s
   within : SpanWithin s.p (rows_of old.rows) (rows_of new.rows)
   has : Each (λ n. InSpan s.p (rows_of new.rows) (instance_vector s n)) todo
 
-module _ (s : Setting) (prime : IsInTable s.p) where
+module _ (s : BlockSetting) (prime : IsInTable s.p) where
   -- the row of an instance
   abbrev instance_cells : ℕ × List ℕ → Cells
   instance_cells name = cells_of s.p (width_of s) (instance_vector s name)
@@ -122,7 +120,7 @@ module _ (s : Setting) (prime : IsInTable s.p) where
 abbrev instances_by : (ℕ → List (List ℕ)) → List Form → List (ℕ × List ℕ)
 instances_by tuples_of fs = flat_map (λ k. map (λ x. (k, x)) (tuples_of (form_at fs k).degree)) (rising 0 (length fs))
 
-module _ (s : Setting) (tuples_of : ℕ → List (List ℕ)) (all : (d : ℕ) → AreTuples s.parts d s.at (tuples_of d)) where
+module _ (s : BlockSetting) (tuples_of : ℕ → List (List ℕ)) (all : (d : ℕ) → AreTuples s.parts d s.at (tuples_of d)) where
   instances-are : Each (IsInstance s) (instances_by tuples_of s.forms)
   instances-are = each-in (IsInstance s) (instances_by tuples_of s.forms) (λ name i.
       let k = in-parts (λ k. map (λ x. (k, x)) (tuples_of (form_at s.forms k).degree)) name (rising 0 (length s.forms)) i in
@@ -140,12 +138,12 @@ module _ (s : Setting) (tuples_of : ℕ → List (List ℕ)) (all : (d : ℕ) �
       (in-map (λ (x : List ℕ). (name.0, x)) name.1 (tuples_of (form_at s.forms name.0).degree) ((all (form_at s.forms name.0).degree).all name.1 h.tuple))
 
 -- rows with the span of all instances
-pub record HasReduction (s : Setting) : Type 0 where
+pub record HasReduction (s : BlockSetting) : Type 0 where
   pub rows : HasRows s
   pub spans : SpansInstances s (reduction_of s rows.rows)
   pub origins : AreOrigins s (reduction_of s rows.rows) rows.names
 
-has-reduction : (s : Setting) → IsInTable s.p → 1 < s.p → (tuples_of : ℕ → List (List ℕ)) → ((d : ℕ) → AreTuples s.parts d s.at (tuples_of d)) → HasReduction s
+has-reduction : (s : BlockSetting) → IsInTable s.p → 1 < s.p → (tuples_of : ℕ → List (List ℕ)) → ((d : ℕ) → AreTuples s.parts d s.at (tuples_of d)) → HasReduction s
 has-reduction s prime above tuples_of all =
     let c = all-more s prime (instances_by tuples_of s.forms) (instances-are s tuples_of all) (nothing s prime above) in
     record {
@@ -159,7 +157,7 @@ has-reduction s prime above tuples_of all =
 pub record HasBlock (fs : List Form) (t : Table) (w : List ℕ) : Type 0 where
   pub view : BlockView
   pub order : List ℕ
-  pub kept : IsKept view.reduced.p view.reduced.columns order view.reduced.rows
+  pub kept : AreKeptRows view.reduced.p view.reduced.columns order view.reduced.rows
   pub block : IsBlock (setting_of fs t w) view
   pub meaning : IsBlockAt fs t w view.reduced view.origins
 
@@ -167,7 +165,7 @@ pub record HasBlock (fs : List Form) (t : Table) (w : List ℕ) : Type 0 where
 pub block-exists : (fs : List Form) (t : Table) (w : List ℕ) → IsTable t → IsRightTable fs t → AreMultilinear fs → AreHigh fs → IsTypeWithin t.target (t.degree + 1) w →
     length (products t.parts w) ≤ 4096 → HasBlock fs t w
 block-exists fs t w tab right multi high ty few =
-    let s : Setting = setting_of fs t w in
+    let s : BlockSetting = setting_of fs t w in
     let r : HasReduction s = has-reduction s tab.field (above_one t tab) (λ d. tuples (ranges t.parts w t.degree) d w) (λ d. tuples-are t w tab ty.long ty.within d) in
     let ps = kept-pivots t.p (width_of s) r.rows.order r.rows.rows r.rows.kept in
     let n = few_generators t.target tab.goal in

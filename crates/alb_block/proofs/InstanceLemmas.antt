@@ -7,16 +7,13 @@ use Rattle.std.proofs.lemmas.Bool.Decides.{nat_tests}
 use Rattle.gf_sums.specs.Sums.{Comb, total, scale, reindex, multiply}
 use Rattle.alb_mono.specs.Listing.{Each}
 use Rattle.alb_mono.specs.Tree.{Tree, leaf, node, count, listed, type_of, type_plus, same_tree, AreBelow}
-use Rattle.alb_poly.specs.Algebra.{evaluate, unit}
+use Rattle.alb_poly.specs.Textbook.{evaluate, unit}
 use Rattle.alb_poly.specs.Poly.{Poly}
 use Rattle.alb_poly.specs.Instance.{Form, IsMultilinearForm}
 use Rattle.alb_poly.proofs.Consequence.{tree_tells}
 use Rattle.alb_poly.proofs.Multilinear.{each-append, each-from, multilinear-below}
-use Rattle.alb_table.specs.Grid.{same_pair}
-use Rattle.alb_table.specs.PartView.{elems, type_at, monos, mono_at}
-use Rattle.alb_table.specs.Entry.{table_product}
-use Rattle.alb_table.specs.Table.{Table, IsTable}
-use Rattle.alb_table.specs.Right.{IsBasisTo, IsRight, mono_of, entry_by}
+use Rattle.alb_table.specs.Table.{same_pair, elems, type_at, monos, mono_at, table_product, Table, IsTable}
+use Rattle.alb_table.specs.Right.{IsBasisTo, IsRight, basis_mono, entry_by}
 use Rattle.alb_table.specs.RightTable.{basis_monos, mono_entry, instance_at}
 use Rattle.alb_table.specs.Block.{image, spread, form_row, IsTupleAt}
 use Rattle.alb_table.specs.Columns.{vector_of}
@@ -25,9 +22,8 @@ use Rattle.alb_table.proofs.Numbers.{evaluate-each, images-reindex, coefficient-
 use Rattle.alb_table.proofs.RightTables.{length-monos, number-type, number-basis, basis-number, numbers-differ, numbered, type-to}
 use Rattle.alb_subst.specs.Tuples.{type_sum}
 use Rattle.alb_subst.specs.Sums.{instance_row}
-use Rattle.alb_block.specs.Instances.{Setting, IsInstance, vector_over}
-use Rattle.alb_linear.proofs.LinearLemmas.{each_from_all}
-use Rattle.alb_linear.proofs.LinearLemmas.{all_from_each}
+use Rattle.alb_block.specs.Instances.{BlockSetting, IsInstance, vector_over}
+use Rattle.alb_linear.proofs.LinearLemmas.{each_from_all, all_from_each}
 use Rattle.alb_block.proofs.ColumnLemmas.{pair_mono}
 
 -- ---- the types of a tuple
@@ -95,7 +91,7 @@ module _ (fs : List Form) (t : Table) (tab : IsTable t) (right : IsRight t.p fs 
       record { numbers = b.0 ∷ w.numbers; below = (b.1, w.below); are = ap (λ x. x ∷ map (mono_at t.parts) w.numbers) b.2 ∙ ap (λ xs. m ∷ xs) w.are }
 
   module _ (w : List ℕ) (long : length w ≡ length t.target) where
-    abbrev pub here : Setting
+    abbrev pub here : BlockSetting
     here = record { p = t.p; forms = fs; parts = t.parts; at = w }
 
     -- an instance over numbers is one over monomials
@@ -159,9 +155,9 @@ module _ (fs : List Form) (t : Table) (tab : IsTable t) (right : IsRight t.p fs 
   module _ (b : ℕ → ℕ) (n : ℕ) (known : (k : ℕ) → k < n → InTable (b k)) where
     values-in : (m : Tree) → AreBelow n m → Each (λ s. InTable s.1) (evaluate (table_product t.parts) (λ k. unit (b k)) m)
     values-in m h =
-        evaluate-each InTable (mono_of (monos t.parts)) (table_product t.parts) (entry_by (monos t.parts) (table_product t.parts)) (numbered fs t tab right).entries
+        evaluate-each InTable (basis_mono (monos t.parts)) (table_product t.parts) (entry_by (monos t.parts) (table_product t.parts)) (numbered fs t tab right).entries
         (entry-respects (length t.target) (monos t.parts) (table_product t.parts) (numbered fs t tab right))
-        (λ k. unit (b k)) (λ k. unit (mono_of (monos t.parts) (b k))) n (λ k l. (known k l, tt)) (λ k l. refl) m h
+        (λ k. unit (b k)) (λ k. unit (basis_mono (monos t.parts) (b k))) n (λ k l. (known k l, tt)) (λ k l. refl) m h
 
     image-in : (m : Tree) → AreBelow n m → Each (λ (s : ℕ × (ℕ × ℕ)). InTable s.1.0 × InTable s.1.1) (image (λ i j. (i, j)) (table_product t.parts) (λ k. unit (b k)) m)
     image-in (leaf k) h = tt
@@ -185,7 +181,7 @@ module _ (fs : List Form) (t : Table) (tab : IsTable t) (right : IsRight t.p fs 
   pub row-monos : (f : Form) (x : List ℕ) → IsMultilinearForm f → Each (λ b. b < size) x → length x ≡ f.degree →
       reindex (pair_mono t.parts) (instance_row t.parts f x) ≡ form_row node (mono_entry t.parts) (λ k. get_or (map (mono_at t.parts) x) k (leaf k)) f
   row-monos f x m a e =
-      images-reindex InTable (mono_of (monos t.parts)) (table_product t.parts) (entry_by (monos t.parts) (table_product t.parts)) (numbered fs t tab right).entries
+      images-reindex InTable (basis_mono (monos t.parts)) (table_product t.parts) (entry_by (monos t.parts) (table_product t.parts)) (numbered fs t tab right).entries
       (entry-respects (length t.target) (monos t.parts) (table_product t.parts) (numbered fs t tab right))
       (λ k. unit (get_or x k 0)) (λ k. unit (get_or (map (mono_at t.parts) x) k (leaf k))) f.degree
       (λ k l. (known x a k (omega (arith, e)), tt)) (λ k l. ap unit (sym (map_get (mono_at t.parts) x k 0 (leaf k) (omega (arith, e)))))

@@ -10,8 +10,7 @@ use Rattle.std.proofs.lemmas.Map.Keys.{Less-from_sorted}
 use Rattle.gf_field.proofs.Mod.{same, ◌⊙◌}
 use Rattle.gf_sums.proofs.Alike.{itself, turned}
 use Rattle.alb_mono.specs.Listing.{Each, IsIn, Ascends}
-use Rattle.alb_mono.specs.Tree.{Tree, leaf, cmp_trees}
-use Rattle.alb_mono.specs.Types.{IsTypeWithin}
+use Rattle.alb_mono.specs.Tree.{Tree, leaf, cmp_trees, IsTypeWithin}
 use Rattle.alb_mono.proofs.ListingLemmas.{each-map, each-member, each-weaker, in-map}
 use Rattle.alb_poly.specs.Poly.{Poly}
 use Rattle.alb_poly.specs.Instance.{Form, IsMultilinearForm}
@@ -23,22 +22,21 @@ use Rattle.alb_rows.specs.Span.{SameSpan, ArePivots}
 use Rattle.alb_rows.proofs.SpanLemmas.{span_one, span_through, span_same}
 use Rattle.alb_reduce.specs.Reduction.{Reduction, kept}
 use Rattle.alb_table.specs.Table.{Table, IsTable}
-use Rattle.alb_table.specs.Leading.{IsZeroAt, IsNormal}
-use Rattle.alb_table.specs.Right.{AreHigh, IsBasisTo, IsRight, IsTypeTo, IsWithin}
+use Rattle.alb_table.specs.Right.{IsZeroAt, IsNormal, AreHigh, IsBasisTo, IsRight, IsTypeTo, IsWithinDegree}
 use Rattle.alb_table.specs.RightTable.{basis_monos, mono_entry, instance_at}
-use Rattle.alb_table.specs.Block.{InSpan, IsTupleAt, tuple_row, IsColumnAt, IsPivotAt, IsFreeAt, IsEntryAt, ArePivotsAt, AreOriginsAt, AreFreeAt, block_image}
+use Rattle.alb_table.specs.Block.{InNamedSpan, IsTupleAt, tuple_row, IsColumnAt, IsPivotAt, IsFreeAt, IsEntryAt, ArePivotsAt, AreOriginsAt, AreFreeAt, block_image}
 use Rattle.alb_table.specs.Columns.{vector_of, AreColumns, col, HasElement, HaveSpan}
 use Rattle.alb_table.proofs.Bases.{IsTable as IsTableOver}
 use Rattle.alb_table.proofs.Spans.{span-alike, span-one, span-zero}
 use Rattle.alb_table.proofs.Congruent.{difference-zero}
-use Rattle.alb_poly.specs.Algebra.{unit}
+use Rattle.alb_poly.specs.Textbook.{unit}
 use Rattle.alb_table.proofs.FirstLemmas.{few_generators}
 use Rattle.alb_table.proofs.GeneratorLemmas.{above_one}
 use Rattle.alb_table.proofs.Right.{right-table, element-columns_at, free-normal, normal-free, image-spans_at, span-image_at}
 use Rattle.alb_table.proofs.Columns.{vector-alike, element-vector, vector-element, pivot-number, number-pivot, column-at, number}
 use Rattle.alb_table.proofs.Block.{number-free, pivot-entry, origins-span}
 use Rattle.alb_subst.specs.Sums.{instance_row}
-use Rattle.alb_block.specs.Instances.{Setting, IsInstance, columns_of, instance_vector, all_instances, listed_instances, AreOrigins}
+use Rattle.alb_block.specs.Instances.{BlockSetting, IsInstance, columns_of, instance_vector, all_instances, listed_instances, AreOrigins}
 use Rattle.alb_block.specs.Laws.{IsImageOf, RowsSpanImages}
 use Rattle.alb_block.specs.Meaning.{column_monos, IsBlockAt}
 use Rattle.alb_block.proofs.ColumnLemmas.{columns-are, columns-in}
@@ -49,21 +47,21 @@ use Rattle.alb_block.proofs.InstanceLemmas.{instance-tuple, tuple-instance, HasN
 -- a span that is equal to one that the rows have is one that they have
 have-same : {N K L : Type 0} (p : ℕ) (Named : N → Type 0) (row : N → Poly) (Column : Tree → Type 0) (cols : List Tree) (are : AreColumns Column cols)
     (f : K → ℕ → ℕ) (g : L → ℕ → ℕ) (span : HaveSpan p Named row cols f)
-    (columns : (x : Poly) → InSpan p Named row x → (m : Tree) → (IsZeroAt p x m → ⊥) → Column m) → SameSpan p g f → HaveSpan p Named row cols g
+    (columns : (x : Poly) → InNamedSpan p Named row x → (m : Tree) → (IsZeroAt p x m → ⊥) → Column m) → SameSpan p g f → HaveSpan p Named row cols g
 have-same p Named row Column cols are f g span columns s = record {
   into = λ k. vector-element p Named row Column cols are f span columns (g k) (s.into k);
   from = λ n h. span_through p f g (vector_of cols (row n)) s.back (span.from n h);
 }
 
 -- the rows of a list of instances, by their places
-abbrev rows_at : Setting → List (ℕ × List ℕ) → ℕ → ℕ → ℕ
+abbrev rows_at : BlockSetting → List (ℕ × List ℕ) → ℕ → ℕ → ℕ
 rows_at s [] k j = 0
 rows_at s (n ∷ ns) zero j = instance_vector s n j
 rows_at s (n ∷ ns) (suc k) j = rows_at s ns k j
 
 module _ (fs : List Form) (t : Table) (tab : IsTable t) (right : IsRight t.p fs t.target t.degree (basis_monos t.parts) (mono_entry t.parts))
     (multi : AreMultilinear fs) (high : AreHigh fs) (small : length t.target ≤ 26) (w : List ℕ) (ty : IsTypeWithin t.target (t.degree + 1) w) where
-  abbrev here : Setting
+  abbrev here : BlockSetting
   here = record { p = t.p; forms = fs; parts = t.parts; at = w }
 
   abbrev cols : List Tree
@@ -84,13 +82,13 @@ module _ (fs : List Form) (t : Table) (tab : IsTable t) (right : IsRight t.p fs 
   to : IsTypeTo t.target (t.degree + 1) w
   to = record { counts = ty.long; le = ty.within; degree = omega (arith, ty.degree) }
 
-  over : IsTableOver t.p fs (IsWithin t.target t.degree) (IsBasisTo t.p fs t.target t.degree) entries
+  over : IsTableOver t.p fs (IsWithinDegree t.target t.degree) (IsBasisTo t.p fs t.target t.degree) entries
   over = right-table t.p pos fs multi high t.target t.degree (basis_monos t.parts) entries right
 
   are : AreColumns Column cols
   are = columns-are fs t tab right small w ty.long
 
-  columns : (x : Poly) → InSpan t.p Named (tuple_row fs entries) x → (m : Tree) → (IsZeroAt t.p x m → ⊥) → Column m
+  columns : (x : Poly) → InNamedSpan t.p Named (tuple_row fs entries) x → (m : Tree) → (IsZeroAt t.p x m → ⊥) → Column m
   columns x s m n = element-columns_at t.p pos fs multi high t.target t.degree tab.started entries over w to ty.degree x s m n
 
   -- the rows over numbers and over monomials have one vector

@@ -6,14 +6,12 @@ use Rattle.gf_field.proofs.Mod.{same}
 use Rattle.gf_sums.specs.Sums.{Comb, coefficient}
 use Rattle.alb_mono.specs.Listing.{Each, IsIn}
 use Rattle.alb_mono.proofs.ListingLemmas.{each-weaker, each-append, each-member, in-left, in-right}
-use Rattle.alb_poly.specs.Consequence.{form_at}
+use Rattle.alb_poly.specs.Consequence.{form_at, form}
 use Rattle.alb_poly.specs.Instance.{Form}
-use Rattle.alb_poly.specs.Rules.{form}
 use Rattle.alb_poly.specs.declared.rules.Linear.{Linear}
 use Rattle.alb_rows.specs.Row.{Cells, ColumnsBelow, entry}
 use Rattle.alb_rows.proofs.RowLemmas.{entry_past}
-use Rattle.alb_table.specs.Grid.{same_pair}
-use Rattle.alb_table.specs.PartView.{origin_view}
+use Rattle.alb_table.specs.Table.{same_pair, origin_view}
 use Rattle.alb_table.specs.declared.part.Origin.{Origin}
 use Rattle.std.proofs.lemmas.List.{map-append, length-map}
 use Rattle.alb_rows.specs.Span.{combination, InSpan, SpanWithin, SameSpan, IsPivot, ArePivots, Ascending, rows_of}
@@ -21,12 +19,12 @@ use Rattle.alb_rows.proofs.SpanLemmas.{mod_add, mod_mul, span_zero, span_one, sp
 use Rattle.alb_reduce.specs.Reduction.{Reduction, kept, AddsPivot}
 use Rattle.alb_subst.specs.Sums.{HasEntries, instance_row}
 use Rattle.alb_subst.specs.Tuples.{IsTupleOf, AreTuples}
-use Rattle.alb_block.specs.Instances.{columns_of, Setting, IsInstance, vector_over, instance_vector, all_instances, listed_instances, SpansInstances, AreOrigins}
+use Rattle.alb_block.specs.Instances.{columns_of, BlockSetting, IsInstance, vector_over, instance_vector, all_instances, listed_instances, SpansInstances, AreOrigins}
 use Rattle.alb_block.specs.Offers.{AreDifferent, HasPivots, IsRowOf, AreKept, HasBefore, HasMore}
 use Rattle.alb_block.proofs.ListLemmas.{in_place, place_in}
 
 -- what is still to come of the form k: the span has its instances but for some tuples
-pub record Lacks (s : Setting) (r : Reduction) (k : ℕ) (tuples : List (List ℕ)) : Type 0 where
+pub record Lacks (s : BlockSetting) (r : Reduction) (k : ℕ) (tuples : List (List ℕ)) : Type 0 where
   pub each : Each (IsTupleOf s.parts (form_at s.forms k).degree s.at) tuples
   pub others : (x : List ℕ) → IsTupleOf s.parts (form_at s.forms k).degree s.at x → IsIn x tuples ⊎ InSpan s.p (kept r) (instance_vector s (k, x))
 
@@ -109,24 +107,24 @@ pivots-more old new c n a h = record {
 -- ---- spans of listed instances
 
 -- more names, more span
-names_within : (s : Setting) (xs ys : List (ℕ × List ℕ)) → ((n : ℕ × List ℕ) → IsIn n xs → IsIn n ys) → SpanWithin s.p (listed_instances s xs) (listed_instances s ys)
+names_within : (s : BlockSetting) (xs ys : List (ℕ × List ℕ)) → ((n : ℕ × List ℕ) → IsIn n xs → IsIn n ys) → SpanWithin s.p (listed_instances s xs) (listed_instances s ys)
 names_within s xs ys h k = span_one s.p (listed_instances s ys) (k.0, h k.0 k.1)
 
 -- the row of an instance as an element of a span
-row-instance : (s : Setting) {K : Type 0} (f : K → ℕ → ℕ) (name : ℕ × List ℕ) (row : Cells) → IsRowOf s name row → InSpan s.p f (entry row) → InSpan s.p f (instance_vector s name)
+row-instance : (s : BlockSetting) {K : Type 0} (f : K → ℕ → ℕ) (name : ℕ × List ℕ) (row : Cells) → IsRowOf s name row → InSpan s.p f (entry row) → InSpan s.p f (instance_vector s name)
 row-instance s f name row r h = span_same s.p f (entry row) (instance_vector s name) (λ j. (r j).same) h
 
-instance-row : (s : Setting) {K : Type 0} (f : K → ℕ → ℕ) (name : ℕ × List ℕ) (row : Cells) → IsRowOf s name row → InSpan s.p f (instance_vector s name) → InSpan s.p f (entry row)
+instance-row : (s : BlockSetting) {K : Type 0} (f : K → ℕ → ℕ) (name : ℕ × List ℕ) (row : Cells) → IsRowOf s name row → InSpan s.p f (instance_vector s name) → InSpan s.p f (entry row)
 instance-row s f name row r h = span_same s.p f (instance_vector s name) (entry row) (λ j. sym (r j).same) h
 
 -- the row that was offered is in the new span
-offered-in : (s : Setting) (old new : Reduction) (row : Cells) → SameSpan s.p (kept new) (rows_of (row ∷ old.rows)) → InSpan s.p (kept new) (entry row)
+offered-in : (s : BlockSetting) (old new : Reduction) (row : Cells) → SameSpan s.p (kept new) (rows_of (row ∷ old.rows)) → InSpan s.p (kept new) (entry row)
 offered-in s old new row g = g.back 0
 
-old-within : (s : Setting) (old new : Reduction) (row : Cells) → SameSpan s.p (kept new) (rows_of (row ∷ old.rows)) → SpanWithin s.p (kept old) (kept new)
+old-within : (s : BlockSetting) (old new : Reduction) (row : Cells) → SameSpan s.p (kept new) (rows_of (row ∷ old.rows)) → SpanWithin s.p (kept old) (kept new)
 old-within s old new row g k = g.back (suc k)
 
-pub has-more : (s : Setting) (old new : Reduction) (name : ℕ × List ℕ) (row : Cells) → IsRowOf s name row → SameSpan s.p (kept new) (rows_of (row ∷ old.rows)) →
+pub has-more : (s : BlockSetting) (old new : Reduction) (name : ℕ × List ℕ) (row : Cells) → IsRowOf s name row → SameSpan s.p (kept new) (rows_of (row ∷ old.rows)) →
     HasMore s old new name
 has-more s old new name row r g = record {
   within = old-within s old new row g;
@@ -134,13 +132,13 @@ has-more s old new name row r g = record {
 }
 
 -- a zero row changes nothing
-pub has-zero : (s : Setting) (r : Reduction) (name : ℕ × List ℕ) (row : Cells) → IsRowOf s name row → row ≡ [] → HasMore s r r name
+pub has-zero : (s : BlockSetting) (r : Reduction) (name : ℕ × List ℕ) (row : Cells) → IsRowOf s name row → row ≡ [] → HasMore s r r name
 has-zero s r name row is e = record {
   within = λ k. span_one s.p (kept r) k;
   has = row-instance s (kept r) name row is (subst (λ (x : Cells). InSpan s.p (kept r) (entry x)) (sym e) (span_zero s.p (kept r)));
 }
 
-span-of-old : (s : Setting) (old : Reduction) (row : Cells) → InSpan s.p (kept old) (entry row) → SameSpan s.p (kept old) (rows_of (row ∷ old.rows))
+span-of-old : (s : BlockSetting) (old : Reduction) (row : Cells) → InSpan s.p (kept old) (entry row) → SameSpan s.p (kept old) (rows_of (row ∷ old.rows))
 span-of-old s old row d = record {
   into = λ k. span_one s.p (rows_of (row ∷ old.rows)) (suc k);
   back = from_row;
@@ -151,7 +149,7 @@ span-of-old s old row d = record {
     from_row (suc k) = span_one s.p (kept old) k
 
 -- a dependent row: the same instances, and the same span
-pub kept-dependent : (s : Setting) (old new : Reduction) (names : List (ℕ × List ℕ)) (row : Cells) → AreKept s old names →
+pub kept-dependent : (s : BlockSetting) (old new : Reduction) (names : List (ℕ × List ℕ)) (row : Cells) → AreKept s old names →
     SameSpan s.p (kept new) (rows_of (row ∷ old.rows)) → InSpan s.p (kept old) (entry row) →
     (new.p ≡ old.p) × (new.columns ≡ old.columns) × (new.keeps_recipes ≡ old.keeps_recipes) → AreKept s new names
 kept-dependent s old new names row a g d e =
@@ -173,7 +171,7 @@ in_last n (x ∷ names) m (inl e) = inl (inl e)
 in_last n (x ∷ names) m (inr h) = elim (in_last n names m h) [ inl k ↦ inl (inr k) | inr e ↦ inr e ]
 
 -- a row that gives a pivot: one more instance
-pub kept-pivot : (s : Setting) (old new : Reduction) (names : List (ℕ × List ℕ)) (name : ℕ × List ℕ) (row : Cells) (c : ℕ) → AreKept s old names →
+pub kept-pivot : (s : BlockSetting) (old new : Reduction) (names : List (ℕ × List ℕ)) (name : ℕ × List ℕ) (row : Cells) (c : ℕ) → AreKept s old names →
     IsInstance s name → IsRowOf s name row → SameSpan s.p (kept new) (rows_of (row ∷ old.rows)) → AddsPivot old new c →
     (new.p ≡ old.p) × (new.columns ≡ old.columns) × (new.keeps_recipes ≡ old.keeps_recipes) → AreKept s new (names ++ name ∷ [])
 kept-pivot s old new names name row c a is r g ap_ e =
@@ -214,7 +212,7 @@ zero-combination p f h (x ∷ xs) j =
     ∙ ap (λ n. n % p) (omega arith)
 
 -- nothing was offered
-pub kept-nothing : (s : Setting) (r : Reduction) → r.p ≡ s.p → r.columns ≡ length (columns_of s.parts s.at) → r.keeps_recipes ≡ false → r.rows ≡ [] → AreKept s r []
+pub kept-nothing : (s : BlockSetting) (r : Reduction) → r.p ≡ s.p → r.columns ≡ length (columns_of s.parts s.at) → r.keeps_recipes ≡ false → r.rows ≡ [] → AreKept s r []
 kept-nothing s r e w n z = record {
   field = e;
   width = w;
@@ -236,7 +234,7 @@ kept-nothing s r e w n z = record {
 -- ---- the loops
 
 -- one more tuple of a form
-pub lacks-less : (s : Setting) (old new : Reduction) (k : ℕ) (x : List ℕ) (tuples : List (List ℕ)) → Lacks s old k (x ∷ tuples) → HasMore s old new (k, x) → Lacks s new k tuples
+pub lacks-less : (s : BlockSetting) (old new : Reduction) (k : ℕ) (x : List ℕ) (tuples : List (List ℕ)) → Lacks s old k (x ∷ tuples) → HasMore s old new (k, x) → Lacks s new k tuples
 lacks-less s old new k x tuples l m = record {
   each = l.each.1;
   others = λ y h. elim (l.others y h) [
@@ -246,11 +244,11 @@ lacks-less s old new k x tuples l m = record {
   ];
 }
 
-pub before-more : (s : Setting) (old new : Reduction) (k : ℕ) (name : ℕ × List ℕ) → HasBefore s old k → HasMore s old new name → HasBefore s new k
+pub before-more : (s : BlockSetting) (old new : Reduction) (k : ℕ) (name : ℕ × List ℕ) → HasBefore s old k → HasMore s old new name → HasBefore s new k
 before-more s old new k name b m n h l = span_through s.p (kept old) (kept new) (instance_vector s n) m.within (b n h l)
 
 -- a form is done
-pub before-next : (s : Setting) (r : Reduction) (k : ℕ) → HasBefore s r k → Lacks s r k [] → HasBefore s r (k + 1)
+pub before-next : (s : BlockSetting) (r : Reduction) (k : ℕ) → HasBefore s r k → Lacks s r k [] → HasBefore s r (k + 1)
 before-next s r k b l n h m = elim (cases_eq n.0 k) [
   | inl e ↦ (elim (l.others n.1 (subst (λ i. IsTupleOf s.parts (form_at s.forms i).degree s.at n.1) e h.tuple)) [
     | inl i ↦ absurd i
@@ -260,14 +258,14 @@ before-next s r k b l n h m = elim (cases_eq n.0 k) [
 ]
 
 -- all forms are done
-pub spans-all : (s : Setting) (r : Reduction) (names : List (ℕ × List ℕ)) → AreKept s r names → HasBefore s r (length s.forms) → SpansInstances s r
+pub spans-all : (s : BlockSetting) (r : Reduction) (names : List (ℕ × List ℕ)) → AreKept s r names → HasBefore s r (length s.forms) → SpansInstances s r
 spans-all s r names a b = record {
   into = λ k. span_through s.p (listed_instances s names) (all_instances s) (kept r k)
       (λ n. span_one s.p (all_instances s) (n.0, each-member (IsInstance s) names n.0 a.are n.1)) (a.spans.into k);
   back = λ k. b k.0 k.1 k.1.form;
 }
 
-pub origins-kept : (s : Setting) (r : Reduction) (names : List (ℕ × List ℕ)) → AreKept s r names → AreOrigins s r names
+pub origins-kept : (s : BlockSetting) (r : Reduction) (names : List (ℕ × List ℕ)) → AreKept s r names → AreOrigins s r names
 origins-kept s r names a = record {
   are = a.are;
   count = λ pivots h. pivots-counted s.p (kept r) (length names) pivots a.pivots h;
@@ -287,7 +285,7 @@ vector-past (q ∷ cols) f zero l = absurd (omega arith)
 vector-past (q ∷ cols) f (suc j) l = vector-past cols f j (omega arith)
 
 -- a row with the entries of an instance is its vector
-pub row-of : (s : Setting) (name : ℕ × List ℕ) (columns : List (ℕ × ℕ)) (row : Cells) (f : Form) → columns ≡ columns_of s.parts s.at → f ≡ form_at s.forms name.0 →
+pub row-of : (s : BlockSetting) (name : ℕ × List ℕ) (columns : List (ℕ × ℕ)) (row : Cells) (f : Form) → columns ≡ columns_of s.parts s.at → f ≡ form_at s.forms name.0 →
     HasEntries s.p columns row (instance_row s.parts f name.1) → ColumnsBelow (length columns) row → IsRowOf s name row
 row-of s name columns row f e g h b =
     subst (λ cols. (j : ℕ) → IsSameMod s.p (entry row j) (vector_over cols (instance_row s.parts (form_at s.forms name.0) name.1) j)) e
@@ -316,7 +314,7 @@ pub item-form : (P : Form → Type 0) (ls : List Linear) (k : ℕ) (l : Linear) 
 item-form P ls k l a h e = subst P (sym (form_item ls k l h e)) (each_at_place P (map form ls) k a (omega (arith, length-map ls form)))
 
 -- the instances of a form, before one is offered
-pub lacks-all : (s : Setting) (r : Reduction) (k : ℕ) (f : Form) (tuples : List (List ℕ)) → f ≡ form_at s.forms k → AreTuples s.parts f.degree s.at tuples → Lacks s r k tuples
+pub lacks-all : (s : BlockSetting) (r : Reduction) (k : ℕ) (f : Form) (tuples : List (List ℕ)) → f ≡ form_at s.forms k → AreTuples s.parts f.degree s.at tuples → Lacks s r k tuples
 lacks-all s r k f tuples e a = record {
   each = subst (λ g. Each (IsTupleOf s.parts g.degree s.at) tuples) e a.each;
   others = λ x h. inl (a.all x (subst (λ g. IsTupleOf s.parts g.degree s.at x) (sym e) h));

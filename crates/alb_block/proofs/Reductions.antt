@@ -5,13 +5,13 @@ use Rattle.std.specs.List.{Contains}
 use Rattle.std.proofs.Math.Nat.{mod-eq_of_lt}
 use Rattle.std.proofs.lemmas.Bool.{cases_eq}
 use Rattle.std.proofs.lemmas.List.{get_or-map, get_or_past, get_or_append_left, get_or_push, length-map, length_push}
-use Rattle.gf_field.specs.Primes.{IsInTable}
+use Rattle.gf_field.specs.Modular.{IsInTable}
 use Rattle.gf_field.proofs.Table.{IsPrime-from_table, IsUnit-below_prime}
-use Rattle.alb_rows.specs.Row.{Cells, ColumnsBelow, entry, IsRowOver, LeadsWith}
+use Rattle.alb_rows.specs.Row.{Cells, ColumnsBelow, entry, IsRowOver, RowLeadsWith}
 use Rattle.alb_rows.specs.Span.{InSpan, ArePivots, rows_of}
 use Rattle.alb_rows.proofs.RowLemmas.{entry_past, leads_first}
 use Rattle.alb_rows.proofs.SpanLemmas.{difference_zero}
-use Rattle.alb_reduce.specs.Echelon.{IsCleared, IsClearedAt, AreClearedAt, NewPivot, IsAscendingBelow, IsKept}
+use Rattle.alb_reduce.specs.Echelon.{IsCleared, IsClearedAt, AreClearedAt, NewPivot, IsAscendingBelow, AreKeptRows}
 use Rattle.alb_reduce.proofs.DiagonalLemmas.{zero_mod, add_zeros, mul_zero_right}
 use Rattle.alb_reduce.proofs.StateLemmas.{row_below}
 use Rattle.alb_reduce.proofs.PlaceLemmas.{AreTakenOff, taken_none, taken_more}
@@ -64,7 +64,7 @@ pub record HasPivot (p : ℕ) (pivots : List ℕ) (rows : List Cells) (row : Cel
   pub rows' : List Cells
   pub new : NewPivot p pivots rows row column rows'
 
-module _ (p : ℕ) (prime : IsInTable p) (n : ℕ) (pivots : List ℕ) (rows : List Cells) (h : IsKept p n pivots rows) where
+module _ (p : ℕ) (prime : IsInTable p) (n : ℕ) (pivots : List ℕ) (rows : List Cells) (h : AreKeptRows p n pivots rows) where
   pos : 0 < p
   pos = positive h.echelon.above
 
@@ -112,7 +112,7 @@ module _ (p : ℕ) (prime : IsInTable p) (n : ℕ) (pivots : List ℕ) (rows : L
   }
 
   -- a cleared row that is not zero gives a pivot
-  pivot-from : (row w : Cells) (c x : ℕ) → IsCleared p pivots rows row w → ColumnsBelow n w → LeadsWith w (c, x) → x < p → HasPivot p pivots rows row
+  pivot-from : (row w : Cells) (c x : ℕ) → IsCleared p pivots rows row w → ColumnsBelow n w → RowLeadsWith w (c, x) → x < p → HasPivot p pivots rows row
   pivot-from row w c x d b lead l =
       let non : x ≢ 0 = lead.nonzero in
       let i = IsUnit-below_prime p x (IsPrime-from_table p prime) (omega arith) l in
@@ -137,7 +137,7 @@ module _ (p : ℕ) (prime : IsInTable p) (n : ℕ) (pivots : List ℕ) (rows : L
       by_lead (x ∷ xs) d b = inr (pivot-from row (x ∷ xs) x.0 x.1 d b (leads_first (x ∷ xs) (Some x) d.residues.row refl) (d.residues.residues 0 x (omega arith)))
 
 -- no rows are kept
-pub kept-none : (p n : ℕ) → 1 < p → IsKept p n [] []
+pub kept-none : (p n : ℕ) → 1 < p → AreKeptRows p n [] []
 kept-none p n above = record {
   echelon = record {
     above = above;
@@ -174,5 +174,5 @@ ascending-below order (suc n) =
       | inr none ↦ (r.0, subst (λ m. IsAscendingBelow order m r.0) z (ascending_skip order n r.0 r.1 none))
     ]
 
-pub kept-pivots : (p n : ℕ) (order : List ℕ) (rows : List Cells) → IsKept p n order rows → (ps : List ℕ) × ArePivots p (rows_of rows) ps
+pub kept-pivots : (p n : ℕ) (order : List ℕ) (rows : List Cells) → AreKeptRows p n order rows → (ps : List ℕ) × ArePivots p (rows_of rows) ps
 kept-pivots p n order rows h = let a = ascending-below order n in (a.0, form_pivots p n order rows a.0 h a.1)

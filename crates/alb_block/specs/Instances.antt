@@ -6,9 +6,7 @@ use Rattle.alb_poly.specs.Instance.{Form}
 use Rattle.alb_poly.specs.Consequence.{form_at}
 use Rattle.alb_rows.specs.Span.{ArePivots, SameSpan}
 use Rattle.alb_reduce.specs.Reduction.{Reduction, kept}
-use Rattle.alb_table.specs.Grid.{same_pair}
-use Rattle.alb_table.specs.PartView.{PartView}
-use Rattle.alb_table.specs.Entry.{products}
+use Rattle.alb_table.specs.Table.{same_pair, PartView, products}
 use Rattle.alb_subst.specs.Sums.{instance_row}
 use Rattle.alb_subst.specs.Tuples.{IsTupleOf}
 
@@ -17,14 +15,14 @@ abbrev pub columns_of : List PartView → List ℕ → List (ℕ × ℕ)
 columns_of parts t = reverse (products parts t)
 
 -- a field's number of elements, forms, the parts of a table, and a type
-pub record Setting : Type 0 where
+pub record BlockSetting : Type 0 where
   pub p : ℕ
   pub forms : List Form
   pub parts : List PartView
   pub at : List ℕ
 
 -- an instance of the type: the number of a form, and basis elements for its positions whose types add up to the type
-pub record IsInstance (s : Setting) (name : ℕ × List ℕ) : Type 0 where
+pub record IsInstance (s : BlockSetting) (name : ℕ × List ℕ) : Type 0 where
   pub form : name.0 < length s.forms
   pub tuple : IsTupleOf s.parts (form_at s.forms name.0).degree s.at name.1
 
@@ -35,23 +33,23 @@ vector_over (q ∷ qs) f zero = coefficient same_pair f q
 vector_over (q ∷ qs) f (suc j) = vector_over qs f j
 
 -- the vector of an instance over the products of the type, the greatest first
-abbrev pub instance_vector : Setting → ℕ × List ℕ → ℕ → ℕ
+abbrev pub instance_vector : BlockSetting → ℕ × List ℕ → ℕ → ℕ
 instance_vector s name = vector_over (columns_of s.parts s.at) (instance_row s.parts (form_at s.forms name.0) name.1)
 
 -- all instances of the type, as a family of vectors
-abbrev pub all_instances : (s : Setting) → (name : ℕ × List ℕ) × IsInstance s name → ℕ → ℕ
+abbrev pub all_instances : (s : BlockSetting) → (name : ℕ × List ℕ) × IsInstance s name → ℕ → ℕ
 all_instances s k = instance_vector s k.0
 
 -- those of a list
-abbrev pub listed_instances : (s : Setting) (names : List (ℕ × List ℕ)) → (name : ℕ × List ℕ) × IsIn name names → ℕ → ℕ
+abbrev pub listed_instances : (s : BlockSetting) (names : List (ℕ × List ℕ)) → (name : ℕ × List ℕ) × IsIn name names → ℕ → ℕ
 listed_instances s names k = instance_vector s k.0
 
 -- the kept rows have the span of all instances
-abbrev pub SpansInstances : Setting → Reduction → Type 0
+abbrev pub SpansInstances : BlockSetting → Reduction → Type 0
 SpansInstances s r = SameSpan s.p (kept r) (all_instances s)
 
 -- as many instances as the kept rows have pivots, with the same span
-pub record AreOrigins (s : Setting) (r : Reduction) (names : List (ℕ × List ℕ)) : Type 0 where
+pub record AreOrigins (s : BlockSetting) (r : Reduction) (names : List (ℕ × List ℕ)) : Type 0 where
   pub are : Each (IsInstance s) names
   pub count : (pivots : List ℕ) → ArePivots s.p (kept r) pivots → length names ≡ length pivots
   pub spans : SameSpan s.p (kept r) (listed_instances s names)

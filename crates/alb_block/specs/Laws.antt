@@ -2,7 +2,7 @@
 use Rattle.std.specs.Prelude.{◌↔◌, ℕ, ◌+◌, List}
 use Rattle.gf_field.specs.Modular.{IsSameMod}
 use Rattle.alb_mono.specs.Listing.{Each}
-use Rattle.alb_mono.specs.Types.{IsTypeWithin}
+use Rattle.alb_mono.specs.Tree.{IsTypeWithin}
 use Rattle.alb_poly.specs.Consequence.{IsConsequence}
 use Rattle.alb_poly.specs.Instance.{Form}
 use Rattle.alb_poly.specs.Poly.{Poly}
@@ -10,8 +10,7 @@ use Rattle.alb_rows.specs.Span as Vectors
 use Rattle.alb_table.specs.Block.{block_image}
 use Rattle.alb_table.specs.Columns.{vector_of}
 use Rattle.alb_table.specs.Right.{IsOfType}
-use Rattle.alb_table.specs.RightFor.{RulesView, IsRightFor}
-use Rattle.alb_table.specs.RightTable.{mono_entry}
+use Rattle.alb_table.specs.RightTable.{RulesView, IsRightFor, mono_entry}
 use Rattle.alb_table.specs.Table.{Table}
 use Rattle.alb_block.specs.Asked.{setting_of}
 use Rattle.alb_block.specs.Instances.{all_instances}

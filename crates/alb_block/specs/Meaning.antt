@@ -5,9 +5,8 @@ use Rattle.alb_mono.specs.Tree.{Tree, node}
 use Rattle.alb_poly.specs.Instance.{Form}
 use Rattle.alb_rows.specs.Span as Vectors
 use Rattle.alb_reduce.specs.Reduction.{Reduction, kept}
-use Rattle.alb_table.specs.PartView.{PartView, mono_at}
-use Rattle.alb_table.specs.Table.{Table}
-use Rattle.alb_table.specs.Leading.{IsNormal}
+use Rattle.alb_table.specs.Table.{PartView, mono_at, Table}
+use Rattle.alb_table.specs.Right.{IsNormal}
 use Rattle.alb_table.specs.Block.{IsColumnAt, IsPivotAt, IsFreeAt, IsEntryAt, AreOriginsAt}
 use Rattle.alb_table.specs.Columns.{AreColumns, IsEntryRow, col}
 use Rattle.alb_block.specs.Instances.{columns_of}

@@ -1,7 +1,7 @@
 -- What contracts see of a block.
 use Rattle.std.specs.Prelude.{ℕ, List, map}
 use Rattle.alb_reduce.specs.Reduction.{Reduction}
-use Rattle.alb_table.specs.PartView.{origin_view}
+use Rattle.alb_table.specs.Table.{origin_view}
 use Rattle.alb_block.specs.declared.block.Block.{Block}
 
 -- a type with its products from the greatest to the least, the reduced form of its instances over these, and the kept instances

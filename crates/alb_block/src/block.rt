@@ -1,12 +1,12 @@
 ghost use Rattle.std.specs.Prelude.{◌≡◌, ◌+◌, ◌<◌, length, map, reverse, IfOk};
-ghost use Rattle.alb_mono.specs.Types.{IsTypeWithin};
-ghost use Rattle.alb_poly.specs.Rules.{forms};
-ghost use Rattle.alb_table.specs.PartView.{origin_view};
-ghost use Rattle.alb_table.specs.RightFor.{rules_view, AreRules, IsRightFor};
+ghost use Rattle.alb_mono.specs.Tree.{IsTypeWithin};
+ghost use Rattle.alb_poly.specs.Consequence.{forms};
+ghost use Rattle.alb_table.specs.Table.{origin_view};
+ghost use Rattle.alb_table.specs.RightTable.{rules_view, AreRules, IsRightFor};
 ghost use Rattle.alb_block.specs.Instances.{columns_of};
-ghost use Rattle.alb_block.specs.Asked.{setting, Answers};
+ghost use Rattle.alb_block.specs.Asked.{block_setting, BlockAnswers};
 ghost use Rattle.alb_block.specs.Meaning.{IsBlockAt};
-ghost use Rattle.alb_block.specs.Opened.{Opens};
+ghost use Rattle.alb_block.specs.Opened.{OpensBlock};
 
 use crate::error::BlockStop;
 use crate::offers::{Offers, Sources, offer_all};
@@ -32,7 +32,7 @@ pub struct Block {
 
 // The columns of a type.
 fn open_columns(alloc: Global, tables: &Tables, t: &Multi) -> Result<Columns, BlockStop>
-    ensures { Opens tables.now.parts t.now result }
+    ensures { OpensBlock tables.now.parts t.now result }
 {
     match Columns::open(alloc, tables, t) {
         Ok(columns) => Ok(columns),
@@ -56,7 +56,7 @@ pub fn reduce_block(
     requires rules { AreRules (rules_view rules.now) }
     requires right { IsRightFor (rules_view rules.now) tables.now }
     requires next { IsTypeWithin tables.now.target (tables.now.degree + 1) t.now }
-    ensures answer { Answers (setting rules.now tables.now t.now) result }
+    ensures answer { BlockAnswers (block_setting rules.now tables.now t.now) result }
     ensures block { IfOk result (λ b. IsBlockAt (forms rules.now) tables.now t.now b.reduced (map origin_view b.origins.items)) }
 {
     let columns = open_columns(alloc, tables, t)?;

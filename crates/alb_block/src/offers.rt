@@ -2,13 +2,13 @@
 ghost use Rattle.std.specs.Prelude.{◌≡◌, ℕ, ◌+◌, ◌<◌, ◌≤◌, ◌^◌, ◌++◌, [], ◌∷◌, false, true, length, map, IfOk, OnOk};
 ghost use Rattle.alb_mono.specs.Listing.{Each};
 ghost use Rattle.alb_mono.specs.Tree.{type_le};
-ghost use Rattle.alb_poly.specs.Rules.{forms};
+ghost use Rattle.alb_poly.specs.Consequence.{forms};
 ghost use Rattle.alb_linear.specs.Identity.{IsLinearized};
 ghost use Rattle.alb_rows.specs.Row.{ColumnsBelow, IsRowOver};
 ghost use Rattle.alb_reduce.specs.Reduction.{Reduction};
-ghost use Rattle.alb_table.specs.PartView.{origin_view};
-ghost use Rattle.alb_table.specs.RightFor.{rules_view, AreRules, IsRightFor};
-ghost use Rattle.alb_block.specs.Instances.{Setting, IsInstance, columns_of};
+ghost use Rattle.alb_table.specs.Table.{origin_view};
+ghost use Rattle.alb_table.specs.RightTable.{rules_view, AreRules, IsRightFor};
+ghost use Rattle.alb_block.specs.Instances.{BlockSetting, IsInstance, columns_of};
 ghost use Rattle.alb_block.specs.Offers.{setting_from, IsRowOf, AreKept, HasBefore, HasMore};
 
 use alb_mono::{Multi, NoMemory};
@@ -46,8 +46,8 @@ fn offer_row(
     requires row_in { IsRowOver offers.echelon.p row }
     requires columns_in { ColumnsBelow offers.echelon.columns row }
     requires no_recipes { offers.echelon.keeps_recipes ≡ false }
-    ensures kept { (s : Setting) → AreKept s offers.echelon (map origin_view offers.origins.items) → IsInstance s (identity, args.items) → IsRowOf s (identity, args.items) row → IfOk result (λ r. AreKept s r.echelon (map origin_view r.origins.items)) }
-    ensures more { (s : Setting) → AreKept s offers.echelon (map origin_view offers.origins.items) → IsRowOf s (identity, args.items) row → IfOk result (λ r. HasMore s offers.echelon r.echelon (identity, args.items)) }
+    ensures kept { (s : BlockSetting) → AreKept s offers.echelon (map origin_view offers.origins.items) → IsInstance s (identity, args.items) → IsRowOf s (identity, args.items) row → IfOk result (λ r. AreKept s r.echelon (map origin_view r.origins.items)) }
+    ensures more { (s : BlockSetting) → AreKept s offers.echelon (map origin_view offers.origins.items) → IsRowOf s (identity, args.items) row → IfOk result (λ r. HasMore s offers.echelon r.echelon (identity, args.items)) }
 {
     let Offers {
         echelon,

@@ -5,7 +5,7 @@ use Rattle.alb_mono.proofs.Both.{both_true}
 use Rattle.alb_core.specs.declared.event.Reply.TheVariants.{Seen}
 use Rattle.alb_core.specs.Machine.{Machine, is_running, is_end_at, all_done}
 use Rattle.alb_table.specs.End.{End, Complete, TooWide, TooManyProducts, TooManyCoefficients, NoMemory, end_of}
-use Rattle.alb_table.specs.RightFor.{RulesView}
+use Rattle.alb_table.specs.RightTable.{RulesView}
 use Rattle.alb_board.specs.Published.{IsAllowedEnd}
 use Rattle.alb_board.specs.Shown.{kind_of, ended_of}
 use Rattle.alb_board.specs.Laws.{OpensAsMachine, PublishIsEvent, EndIsEvent, AskIsEvent, WorkersChangeNothing}

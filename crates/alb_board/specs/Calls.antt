@@ -4,7 +4,7 @@ use Rattle.std.specs.Arc.{arc_value}
 use Rattle.std.specs.Option.{is_some}
 use Rattle.alb_poly.specs.declared.rules.Rules.{Rules}
 use Rattle.alb_table.specs.declared.end.BuildEnd.{BuildEnd}
-use Rattle.alb_table.specs.RightFor.{rules_view, IsRightFor}
+use Rattle.alb_table.specs.RightTable.{rules_view, IsRightFor}
 use Rattle.alb_board.specs.declared.kept.Published.{Published}
 use Rattle.alb_board.specs.declared.kept.Shot.{Shot}
 use Rattle.alb_board.specs.declared.kept.PassView.{PassView}
@@ -20,7 +20,7 @@ pub record IsCalled (v w : PassView) : Type 0 where
 -- WHAT A SHOT IS: a right table with an end that is allowed, if any; not below the degree that was seen and the number that was
 -- known; and the same again where an end was seen. The pass knew `v` before and knows `w` after: it has seen the shot, and its list
 -- grew by this shot
-pub record Shows (rules : Rules) (v : PassView) (k : Shot) (w : PassView) : Type 0 where
+pub record ShowsShot (rules : Rules) (v : PassView) (k : Shot) (w : PassView) : Type 0 where
   pub right : IsRightFor (rules_view rules) (arc_value k.tables)
   pub allowed : MayEnd (rules_view rules) (arc_value k.tables).degree k.end
   pub degree : v.seen ≤ (arc_value k.tables).degree
@@ -41,7 +41,7 @@ pub record ShowsNothing (v w : PassView) : Type 0 where
   pub called : IsCalled v w
 
 -- the builder keeps something of this degree and with this end: it has seen it, and knows a number that is higher by one
-pub record Keeps (v : PassView) (h : Published) (w : PassView) : Type 0 where
+pub record KeepsShot (v : PassView) (h : Published) (w : PassView) : Type 0 where
   pub seen : w.seen ≡ h.degree
   pub end : w.end ≡ h.end
   pub known : w.known ≡ v.known + 1

@@ -4,7 +4,7 @@ use Rattle.std.specs.Arc.{arc_value}
 use Rattle.alb_poly.specs.declared.rules.Rules.{Rules}
 use Rattle.alb_table.specs.declared.end.BuildEnd.{BuildEnd}
 use Rattle.alb_table.specs.End.{End, Complete, TooWide, TooManyProducts, TooManyCoefficients, NoMemory, IsEnd, end_of}
-use Rattle.alb_table.specs.RightFor.{RulesView, rules_view, IsRightFor}
+use Rattle.alb_table.specs.RightTable.{RulesView, rules_view, IsRightFor}
 use Rattle.alb_table.specs.Table.{Table}
 use Rattle.alb_board.specs.declared.kept.Published.{Published}
 use Rattle.alb_board.specs.declared.kept.Shot.{Shot}

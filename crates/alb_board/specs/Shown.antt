@@ -5,7 +5,7 @@ use Rattle.alb_core.specs.declared.event.Ended.TheVariants as machine
 use Rattle.alb_core.specs.Machine.{Machine}
 use Rattle.alb_table.specs.declared.end.BuildEnd.{BuildEnd}
 use Rattle.alb_table.specs.End.{End, Complete, TooWide, TooManyProducts, TooManyCoefficients, NoMemory, end_of}
-use Rattle.alb_table.specs.RightFor.{RulesView}
+use Rattle.alb_table.specs.RightTable.{RulesView}
 use Rattle.alb_board.specs.declared.kept.Published.{Published}
 use Rattle.alb_board.specs.declared.kept.PassView.{PassView}
 use Rattle.alb_board.specs.Published.{published}

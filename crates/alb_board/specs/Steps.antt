@@ -15,7 +15,7 @@ draws st me found me' = (me'.0 ≡ record me.0 { ticket = Some found; calls = me
 
 -- what is known of the kept value `k` where a turn begins: it may be kept, and is not below what the pass has seen and knows.
 -- The builder has seen it
-pub record Finds (v : PassView) (h : Published) (k : Shot) : Type 0 where
+pub record FindsShot (v : PassView) (h : Published) (k : Shot) : Type 0 where
   pub keepable : IsKeepable v.rules k
   pub published_is : published_of k ≡ h
   pub seen : v.seen ≤ h.degree
@@ -29,7 +29,7 @@ in_turn v h = record v { turn = true; counted = false; held = h }
 -- where the own ticket is served the turn begins, and the pass holds the slot; else nothing changes
 abbrev pub looks : Step Slot → M → ℕ → M → Type 0
 looks st me found me' =
-    (me.0.ticket ≡ Some found → (h : Published) × (k : Shot) × (me'.0 ≡ in_turn me.0 h) × (me'.1 ≡ (0, Some k) ∷ me.1) × Finds me.0 h k)
+    (me.0.ticket ≡ Some found → (h : Published) × (k : Shot) × (me'.0 ≡ in_turn me.0 h) × (me'.1 ≡ (0, Some k) ∷ me.1) × FindsShot me.0 h k)
     × (me.0.ticket ≢ Some found → me' ≡ me)
 
 -- the number of the kept value is known, and is not below the one that was
@@ -70,7 +70,7 @@ HoldsShot me = (k : Shot) × (me.1 ≡ (0, Some k) ∷ [])
 abbrev pub HasTurn : M → M → Type 0
 HasTurn me me' =
     (n : ℕ) × (h : Published) × (k : Shot)
-    × (me'.0 ≡ record (in_turn me.0 h) { ticket = Some n; calls = me.0.calls + 1 }) × (me'.1 ≡ (0, Some k) ∷ []) × Finds me.0 h k
+    × (me'.0 ≡ record (in_turn me.0 h) { ticket = Some n; calls = me.0.calls + 1 }) × (me'.1 ≡ (0, Some k) ∷ []) × FindsShot me.0 h k
 
 -- in the slot that it holds is the value that it knows as the kept one
 abbrev pub HoldsKept : M → Type 0

@@ -49,5 +49,5 @@ abbrev pub M : Type 0
 M = Me Slot PassView
 
 -- between two calls a pass has no ticket, no turn and no slot
-abbrev pub IsIdle : M → Type 0
-IsIdle me = (me.0.ticket ≡ None) × (me.0.turn ≡ false) × (me.1 ≡ [])
+abbrev pub HasNoTurn : M → Type 0
+HasNoTurn me = (me.0.ticket ≡ None) × (me.0.turn ≡ false) × (me.1 ≡ [])

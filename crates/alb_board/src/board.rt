@@ -2,10 +2,10 @@
 ghost use Rattle.std.specs.Prelude.{◌≡◌, ◌+◌, ◌^◌, ◌<◌, ◌≤◌, true, None, Some, IfOk, OnOk, OnErr};
 ghost use Rattle.std.specs.Arc.{arc_value};
 ghost use Rattle.alb_table.specs.End.{end_of};
-ghost use Rattle.alb_table.specs.RightFor.{rules_view, IsRightFor};
+ghost use Rattle.alb_table.specs.RightTable.{rules_view, IsRightFor};
 ghost use Rattle.alb_board.specs.Published.{published, IsAllowedEnd};
 ghost use Rattle.alb_board.specs.Views.{first_view, split_view};
-ghost use Rattle.alb_board.specs.Calls.{Shows, ShowsNothing, Keeps};
+ghost use Rattle.alb_board.specs.Calls.{ShowsShot, ShowsNothing, KeepsShot};
 ghost use Rattle.alb_board.specs.Passes.{board_rules, IsPassOf, pass_view};
 
 use crate::kept::{Shot, copy_of};
@@ -75,7 +75,7 @@ impl Board {
         requires own { IsPassOf self.now pass.old }
         requires room { (pass_view pass.old).calls < 2 ^ 48 }
         ensures own { IsPassOf self.now pass.new }
-        ensures shot { IfOk result (λ k. Shows (board_rules self.now) (pass_view pass.old) k (pass_view pass.new)) }
+        ensures shot { IfOk result (λ k. ShowsShot (board_rules self.now) (pass_view pass.old) k (pass_view pass.new)) }
         ensures none { OnErr result (ShowsNothing (pass_view pass.old) (pass_view pass.new)) }
     {
         let lines = &self.table.shared;
@@ -110,7 +110,7 @@ impl Board {
         requires right { IsRightFor (rules_view (board_rules self.now)) (arc_value tables) }
         requires next { (arc_value tables).degree ≡ (pass_view pass.old).seen + 1 }
         ensures own { IsPassOf self.now pass.new }
-        ensures published { Keeps (pass_view pass.old) (published (arc_value tables).degree None) (pass_view pass.new) }
+        ensures published { KeepsShot (pass_view pass.old) (published (arc_value tables).degree None) (pass_view pass.new) }
     {
         let lines = &self.table.shared;
         let seat = &mut pass.seat;
@@ -130,7 +130,7 @@ impl Board {
         requires unended { (pass_view pass.old).end ≡ None }
         requires allowed { IsAllowedEnd (rules_view (board_rules self.now)) (pass_view pass.old).seen (end_of end) }
         ensures own { IsPassOf self.now pass.new }
-        ensures kept { Keeps (pass_view pass.old) (published (pass_view pass.old).seen (Some end)) (pass_view pass.new) }
+        ensures kept { KeepsShot (pass_view pass.old) (published (pass_view pass.old).seen (Some end)) (pass_view pass.new) }
     {
         let lines = &self.table.shared;
         let seat = &mut pass.seat;

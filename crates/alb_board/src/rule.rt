@@ -2,7 +2,7 @@
 ghost use Rattle.std.specs.Prelude.{◌≡◌};
 ghost use Rattle.std.specs.Arc.{arc_value};
 ghost use Rattle.alb_board.specs.Turns.{Turns};
-ghost use Rattle.alb_board.specs.Views.{first_view, IsIdle};
+ghost use Rattle.alb_board.specs.Views.{first_view, HasNoTurn};
 
 use crate::kept::{PassView, Shot};
 use alb_poly::Rules;
@@ -37,6 +37,6 @@ pub struct Board {
 pub struct Pass {
     pub(crate) seat: Place,
     pub(crate) seen: u32,
-    ghost idle: { IsIdle seat.me },
+    ghost idle: { HasNoTurn seat.me },
     ghost told: { seen ≡ seat.me.0.seen },
 }

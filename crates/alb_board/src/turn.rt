@@ -2,7 +2,7 @@
 ghost use Rattle.std.specs.Prelude.{◌≡◌, ℕ, ◌+◌, ◌^◌, ◌<◌, ◌≤◌, true, [], ◌∷◌, Some, None};
 ghost use Rattle.alb_board.specs.Published.{published_of, number_of, IsKeepable};
 ghost use Rattle.alb_board.specs.Steps.{HoldsShot, HoldsKept, HasTurn, after_raise, after_shot, no_turn};
-ghost use Rattle.alb_board.specs.Views.{IsIdle};
+ghost use Rattle.alb_board.specs.Views.{HasNoTurn};
 
 use crate::kept::Shot;
 use crate::plays::{Count, CountInTurn, Draw, Leave, Look, Raise, Show};
@@ -13,7 +13,7 @@ use std::thread;
 // Draws a ticket and waits until it is served.
 pub(crate) fn enter<R: Wait>(rt: &R, lines: &Lines, seat: &mut Place)
     requires own { (seat.old.table_id ≡ lines.now.table_id) × (lines.now.table_id.words ≡ 3) × (lines.now.table_id.slots ≡ 1) }
-    requires idle { IsIdle seat.old.me × (seat.old.me.0.calls < 2 ^ 48) }
+    requires idle { HasNoTurn seat.old.me × (seat.old.me.0.calls < 2 ^ 48) }
     ensures own { seat.new.table_id ≡ seat.old.table_id }
     ensures turn { HasTurn seat.old.me seat.new.me }
 {
@@ -97,7 +97,7 @@ pub(crate) fn show(lines: &Lines, seat: &mut Place)
 // Loads the number until it is above `seen`.
 pub(crate) fn wait_above<R: Wait>(rt: &R, lines: &Lines, seat: &mut Place, seen: u64)
     requires own { (seat.old.table_id ≡ lines.now.table_id) × (lines.now.table_id.words ≡ 3) }
-    requires idle { IsIdle seat.old.me }
+    requires idle { HasNoTurn seat.old.me }
     ensures own { seat.new.table_id ≡ seat.old.table_id }
     ensures known { seat.new.me ≡ (record seat.old.me.0 { known = seat.new.me.0.known }, seat.old.me.1) }
     ensures more { (seen < seat.new.me.0.known) × (seat.old.me.0.known ≤ seat.new.me.0.known) }

@@ -5,13 +5,12 @@ use Rattle.gf_sums.specs.Sums.{Comb, scale, multiply, reindex}
 use Rattle.alb_mono.specs.Listing.{Each}
 use Rattle.alb_mono.specs.Tree.{Tree, leaf, node}
 use Rattle.alb_mono.proofs.ListingLemmas.{each-at}
-use Rattle.alb_poly.specs.Algebra.{evaluate, unit}
+use Rattle.alb_poly.specs.Textbook.{evaluate, unit}
 use Rattle.alb_poly.specs.Poly.{Poly}
 use Rattle.alb_poly.specs.Instance.{Form, fill}
 use Rattle.alb_poly.specs.Consequence.{form_at, AreMultilinear}
 use Rattle.alb_poly.proofs.Multilinear.{each-from}
-use Rattle.alb_table.specs.Leading.{outer, SameType}
-use Rattle.alb_table.specs.Right.{AreHigh, IsPart, IsWithin, IsBasisTo, IsTypeTo, IsRight}
+use Rattle.alb_table.specs.Right.{outer, SameType, AreHigh, IsPart, IsWithinDegree, IsBasisTo, IsTypeTo, IsRight}
 use Rattle.alb_table.specs.Block.{image, spread, IsTupleAt, tuple_row}
 use Rattle.alb_table.proofs.Bases.{IsTable, IsNext}
 use Rattle.alb_table.proofs.Types.{type-itself, type-turned, type-joined, type-node}
@@ -80,14 +79,14 @@ module _ (p : ℕ) (fs : List Form) (Within Basis : Tree → Type 0) (entry entr
       ∙ ap (λ f. scale t.0 (image node entry' at_places t.1) ++ f) (row-agree ts a.1)
 
 module _ (p : ℕ) (pos : 0 < p) (fs : List Form) (multi : AreMultilinear fs) (high : AreHigh fs) (target : List ℕ) (d : ℕ) (big : 1 ≤ d)
-    (entry entry' : Tree → Tree → Poly) (table : IsTable p fs (IsWithin target d) (IsBasisTo p fs target d) entry)
-    (agree : (b c : Tree) → IsBasisTo p fs target d b → IsBasisTo p fs target d c → IsWithin target d (node b c) → entry b c ≡ entry' b c)
+    (entry entry' : Tree → Tree → Poly) (table : IsTable p fs (IsWithinDegree target d) (IsBasisTo p fs target d) entry)
+    (agree : (b c : Tree) → IsBasisTo p fs target d b → IsBasisTo p fs target d c → IsWithinDegree target d (node b c) → entry b c ≡ entry' b c)
     (t : List ℕ) (ty : IsTypeTo target (d + 1) t) (next : sum t ≡ d + 1) where
   -- the row of an instance of the type is the same
   pub tuple-agree : (name : ℕ × List Tree) → IsTupleAt p fs target d t name → tuple_row fs entry name ≡ tuple_row fs entry' name
   unfolding tuple_instance
   tuple-agree name h =
-      row-agree p fs (IsWithin target d) (IsBasisTo p fs target d) entry entry' table agree name.1 h.basis (form_at fs name.0).terms
+      row-agree p fs (IsWithinDegree target d) (IsBasisTo p fs target d) entry entry' table agree name.1 h.basis (form_at fs name.0).terms
       (each-from _ _ (reindex (fill name.1) (form_at fs name.0).terms)
       (λ s o. (within-block target d s.1 big (of_type-within target (d + 1) t s.1 ty o) (of_type-degree t s.1 o ∙ next)).next s.1 (type-itself s.1))
       (instance-types p pos fs multi high target d big entry table t ty next name h))

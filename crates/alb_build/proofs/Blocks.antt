@@ -3,8 +3,7 @@ use Rattle.std.proofs.Common.{◌≡◌, ℕ, zero, suc, ◌+◌, ◌-◌, ◌<�
 use Rattle.std.specs.List.{Contains}
 use Rattle.std.specs.declared.cmp.Ordering.TheVariants.{Less}
 use Rattle.alb_mono.specs.Listing.{Each, Ascends}
-use Rattle.alb_mono.specs.Tree.{Tree, leaf, cmp_trees}
-use Rattle.alb_mono.specs.Types.{rising}
+use Rattle.alb_mono.specs.Tree.{Tree, leaf, cmp_trees, rising}
 use Rattle.alb_table.specs.declared.part.Elem.{Elem}
 use Rattle.alb_table.specs.declared.part.Elem.TheVariants.{Prod}
 use Rattle.std.proofs.lemmas.List.{length-reverse, get_or-reverse}

@@ -5,8 +5,7 @@ use Rattle.gf_sums.specs.Sums.{total}
 use Rattle.gf_sums.proofs.Totals.{total-append}
 use Rattle.alb_mono.specs.Listing.{Each}
 use Rattle.alb_rows.specs.Row.{Cells, ColumnsBelow}
-use Rattle.alb_table.specs.PartView.{PartView, first_of, dim_of, elems}
-use Rattle.alb_table.specs.Table.{IsPartOf, IsRowAmong, count_products, count_coefficients}
+use Rattle.alb_table.specs.Table.{PartView, first_of, dim_of, elems, IsPartOf, IsRowAmong, count_products, count_coefficients}
 use Rattle.alb_table.proofs.RangeLemmas.{range_within}
 
 -- ascending columns from `low` on to below `high` are at most as many

@@ -8,13 +8,10 @@ use Rattle.std.proofs.lemmas.Nat.{pow-add}
 use Rattle.std.proofs.Math.Nat.{le-mul_of_pos_right}
 use Rattle.gf_sums.specs.Sums.{total}
 use Rattle.alb_mono.specs.Listing.{Each}
-use Rattle.alb_mono.specs.Types.{falling, types_of}
+use Rattle.alb_mono.specs.Tree.{falling, types_of}
 use Rattle.alb_mono.proofs.TypeLemmas.{length-falling}
 use Rattle.alb_poly.specs.Instance.{Form}
-use Rattle.alb_table.specs.PartView.{PartView}
-use Rattle.alb_table.specs.Entry.{products}
-use Rattle.alb_table.specs.Limits.{wide}
-use Rattle.alb_table.specs.Table.{Table, IsTarget, count_products}
+use Rattle.alb_table.specs.Table.{PartView, products, wide, Table, IsTarget, count_products}
 use Rattle.alb_table.proofs.PartLemmas.{sum-cons}
 use Rattle.alb_block.specs.View.{BlockView}
 use Rattle.alb_build.specs.Part.{count_columns, FitsBlock, ArePartsOf}

@@ -8,12 +8,9 @@ use Rattle.alb_mono.proofs.TypesListing.{types_of-listing}
 use Rattle.alb_poly.specs.Instance.{Form}
 use Rattle.alb_poly.specs.Consequence.{AreMultilinear}
 use Rattle.alb_table.specs.End.{End, Complete, TooWide, TooManyProducts, TooManyCoefficients, IsEnd, first_wide}
-use Rattle.alb_table.specs.Limits.{next_types, next_products, wide, most_of_type, most_products, most_coefficients}
-use Rattle.alb_table.specs.PartView.{PartView, elems}
+use Rattle.alb_table.specs.Table.{next_types, next_products, wide, most_of_type, most_products, most_coefficients, PartView, elems, Table, IsTable, count_coefficients, extended, first_table}
 use Rattle.alb_table.specs.Right.{AreHigh}
-use Rattle.alb_table.specs.RightFor.{RulesView, IsRightFor}
-use Rattle.alb_table.specs.RightTable.{IsRightTable}
-use Rattle.alb_table.specs.Table.{Table, IsTable, count_coefficients, extended, first_table}
+use Rattle.alb_table.specs.RightTable.{RulesView, IsRightFor, IsRightTable}
 use Rattle.alb_table.proofs.FirstLemmas.{few_generators}
 use Rattle.alb_table.proofs.RightForLemmas.{right-extended, first-right-for}
 use Rattle.alb_build.specs.Laws.{HasEnd, EachEnds}

@@ -9,7 +9,7 @@ use Rattle.gf_field.specs.Modular.{IsSameMod}
 use Rattle.gf_field.proofs.Mod.{same, ◌⊙◌, plus, residues, back}
 use Rattle.gf_sums.specs.Sums.{Comb, coefficient, reindex}
 use Rattle.alb_mono.specs.Listing.{Each}
-use Rattle.alb_rows.specs.Row.{Cells, comb, entry, IsRow, IsRowOver, ColumnsBelow, LeadsWith}
+use Rattle.alb_rows.specs.Row.{Cells, comb, entry, IsRow, IsRowOver, ColumnsBelow, RowLeadsWith}
 use Rattle.alb_rows.proofs.RowLemmas.{head_entry, entry_before, entry-append, tail_later, entry_found, row_tail}
 use Rattle.alb_block.proofs.ListLemmas.{reverse-cons, each-reverse}
 use Rattle.alb_build.specs.Part.{AreNegated, IsPivotEntry}
@@ -63,7 +63,7 @@ entry-reverse (x ∷ xs) i =
     ap (λ ys. entry ys i) (reverse-cons x xs) ∙ entry-append (reverse xs) (x ∷ []) i ∙ omega (arith, entry-reverse xs i)
 
 -- the first cell of a reduced row
-pub lead-is : (column : ℕ) (x : ℕ × ℕ) (xs : Cells) → IsRow (x ∷ xs) → LeadsWith (x ∷ xs) (column, 1) → (x.0 ≡ column) × (x.1 ≡ 1)
+pub lead-is : (column : ℕ) (x : ℕ × ℕ) (xs : Cells) → IsRow (x ∷ xs) → RowLeadsWith (x ∷ xs) (column, 1) → (x.0 ≡ column) × (x.1 ≡ 1)
 lead-is column x xs h l = elim (order column x.0 (lead-first column x xs h l)) [
   | inl s ↦ (
       let z : entry (x ∷ xs) column ≡ 0 = entry_before (x ∷ xs) column (all-behind s) in
@@ -80,7 +80,7 @@ lead-is column x xs h l = elim (order column x.0 (lead-first column x xs h l)) [
     all-behind s (suc k) d m = let y : x.0 < (get_or xs k d).0 = tail_later x xs h k d (omega arith) in omega arith
 
 -- THE ENTRY of a pivot by its reduced row
-pub entry-row : (p n column : ℕ) (numbers : List ℕ) (row es : Cells) (cols : List Tree) → 0 < p → length cols ≡ n → LeadsWith row (column, 1) → IsRowOver p row → ColumnsBelow n row →
+pub entry-row : (p n column : ℕ) (numbers : List ℕ) (row es : Cells) (cols : List Tree) → 0 < p → length cols ≡ n → RowLeadsWith row (column, 1) → IsRowOver p row → ColumnsBelow n row →
     IsPivotEntry p numbers row es → IsEntryRow p cols column (entry row) (negated_comb (reverse (drop 1 row)) es)
 entry-row p n column numbers [] es cols pos len lead over below a = (let z : 0 ≡ 1 = lead.entry_is in absurd (omega arith))
 entry-row p n column numbers (x ∷ xs) es cols pos len lead over below a = record {

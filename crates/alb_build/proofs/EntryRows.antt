@@ -11,7 +11,7 @@ use Rattle.alb_rows.proofs.RowLemmas.{row_tail, tail_later, head_entry, entry_fo
 use Rattle.alb_linear.proofs.LinearLemmas.{each_from_all}
 use Rattle.alb_block.proofs.ListLemmas.{reverse-cons, each-reverse}
 use Rattle.alb_mono.specs.Listing.{Each}
-use Rattle.alb_rows.specs.Row.{Cells, entry, IsRow, IsRowOver, ColumnsBelow, LeadsWith}
+use Rattle.alb_rows.specs.Row.{Cells, entry, IsRow, IsRowOver, ColumnsBelow, RowLeadsWith}
 use Rattle.alb_rows.specs.Span.{IsPivot, IsReducedRow}
 use Rattle.alb_reduce.specs.Reduction.{Reduction, kept}
 use Rattle.alb_table.specs.Table.{IsRowAmong}
@@ -89,7 +89,7 @@ descend-row (x ∷ xs) h = rw (reverse-cons x xs)
     (descend-push (reverse xs) x (descend-row xs (row_tail x xs h)) (each-reverse (λ d. x.0 < d.0) xs (each_from_all (λ d. x.0 < d.0) xs (tail_later x xs h))))
 
 -- the first cell stands at the pivot or behind it
-pub lead-first : (column : ℕ) (x : ℕ × ℕ) (xs : Cells) → IsRow (x ∷ xs) → LeadsWith (x ∷ xs) (column, 1) → column ≤ x.0
+pub lead-first : (column : ℕ) (x : ℕ × ℕ) (xs : Cells) → IsRow (x ∷ xs) → RowLeadsWith (x ∷ xs) (column, 1) → column ≤ x.0
 lead-first column x xs h l = elim (order column x.0) [
   | inl s ↦ s
   | inr s ↦ (
@@ -104,7 +104,7 @@ lead-first column x xs h l = elim (order column x.0) [
 
 module _ (r : Reduction) (free : List Bool) (are : AreFree r (length free) free) (column : ℕ) where
   -- a cell behind the pivot is free
-  pub rest-free : (x : ℕ × ℕ) (xs : Cells) → IsReducedRow r.p (kept r) column (entry (x ∷ xs)) → LeadsWith (x ∷ xs) (column, 1) → IsRowOver r.p (x ∷ xs) →
+  pub rest-free : (x : ℕ × ℕ) (xs : Cells) → IsReducedRow r.p (kept r) column (entry (x ∷ xs)) → RowLeadsWith (x ∷ xs) (column, 1) → IsRowOver r.p (x ∷ xs) →
       ColumnsBelow (length free) (x ∷ xs) → Each (IsFreeCell r.p free) xs
   rest-free x xs red lead over below = each-indexed (IsFreeCell r.p free) xs (λ i l.
       let c : ℕ × ℕ = get_or xs i (0, 0) in
@@ -126,7 +126,7 @@ module _ (r : Reduction) (free : List Bool) (are : AreFree r (length free) free)
       })
 
   -- the entry of a pivot ascends through the numbers of the block
-  pub pivot-rises : (first : ℕ) (row es : Cells) → IsReducedRow r.p (kept r) column (entry row) → LeadsWith row (column, 1) → IsRowOver r.p row →
+  pub pivot-rises : (first : ℕ) (row es : Cells) → IsReducedRow r.p (kept r) column (entry row) → RowLeadsWith row (column, 1) → IsRowOver r.p row →
       ColumnsBelow (length free) row → IsPivotEntry r.p (numbers_from first free) row es → Rises r.p first (first + before free (length free)) es
   pivot-rises first [] [] red lead over below e = tt
   pivot-rises first [] (c ∷ cs) red lead over below e = absurd e
@@ -143,7 +143,7 @@ module _ (r : Reduction) (free : List Bool) (are : AreFree r (length free) free)
       all-above (c ∷ cs) = (omega arith, all-above cs)
 
   -- the cells behind the pivot, the last first
-  pub cells-free : (row : Cells) → IsReducedRow r.p (kept r) column (entry row) → LeadsWith row (column, 1) → IsRowOver r.p row → ColumnsBelow (length free) row →
+  pub cells-free : (row : Cells) → IsReducedRow r.p (kept r) column (entry row) → RowLeadsWith row (column, 1) → IsRowOver r.p row → ColumnsBelow (length free) row →
       Each (IsFreeCell r.p free) (reverse (drop 1 row))
   cells-free [] red lead over below = tt
   cells-free (x ∷ xs) red lead over below = each-reverse (IsFreeCell r.p free) xs (rest-free x xs red lead over below)
@@ -200,7 +200,7 @@ free-full r n free a = subst (λ m. AreFree r m free) (sym a.full) a
 
 -- the negated cells are a row
 pub pivot-row : (r : Reduction) (n : ℕ) (numbers : List ℕ) (column : ℕ) (row es : Cells) → AreNumbers r n numbers → IsReducedRow r.p (kept r) column (entry row) →
-    LeadsWith row (column, 1) → IsRowOver r.p row → ColumnsBelow n row → IsPivotEntry r.p numbers row es → IsRowOver r.p es
+    RowLeadsWith row (column, 1) → IsRowOver r.p row → ColumnsBelow n row → IsPivotEntry r.p numbers row es → IsRowOver r.p es
 pivot-row r n numbers column row es a red lead over below e =
     rises-row r.p a.first (a.first + before a.free (length a.free)) es
     (pivot-rises r a.free (free-full r n a.free a.are_free) column a.first row es red lead over (subst (λ m. ColumnsBelow m row) (sym a.are_free.full) below)
@@ -216,7 +216,7 @@ new-free r numbers k column es e n h = record {
 
 -- the entry of a pivot
 pub new-pivot : (r : Reduction) (n : ℕ) (numbers : List ℕ) (k column : ℕ) (row es : Cells) → column ≡ length numbers - 1 - k → IsPivot r.p (kept r) column →
-    IsReducedRow r.p (kept r) column (entry row) → LeadsWith row (column, 1) → IsRowOver r.p row → ColumnsBelow r.columns row → IsPivotEntry r.p numbers row es →
+    IsReducedRow r.p (kept r) column (entry row) → RowLeadsWith row (column, 1) → IsRowOver r.p row → ColumnsBelow r.columns row → IsPivotEntry r.p numbers row es →
     IsNewEntry r numbers k es
 new-pivot r n numbers k column row es e v red lead over below h = record {
   free = λ f. absurd (f (subst (IsPivot r.p (kept r)) e v));

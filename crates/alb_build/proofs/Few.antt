@@ -7,20 +7,17 @@ use Rattle.std.proofs.lemmas.Bool.{cases_Bool, false≢true}
 use Rattle.std.proofs.lemmas.List.{length-map}
 use Rattle.std.proofs.lemmas.Map.Made.{length-le_from_is_member}
 use Rattle.alb_mono.specs.Listing.{Each, IsIn}
-use Rattle.alb_mono.specs.Tree.{Tree, leaf, node, same_tree}
-use Rattle.alb_mono.specs.Types.{rising}
+use Rattle.alb_mono.specs.Tree.{Tree, leaf, node, same_tree, rising}
 use Rattle.alb_mono.proofs.ListingLemmas.{each-at, each-append, each-member, each-weaker, in-left, in-right, in-map}
 use Rattle.alb_poly.specs.Instance.{Form}
 use Rattle.alb_poly.proofs.Consequence.{tree_tells}
-use Rattle.alb_table.specs.Entry.{products}
+use Rattle.alb_table.specs.Table.{products, PartView, elems, monos, mono_at, Table, IsTable, IsPartOf, IsElementOf, GeneratorBelow, count_products}
 use Rattle.alb_table.proofs.FirstLemmas.{length-rising}
-use Rattle.alb_table.specs.PartView as View
-use Rattle.alb_table.specs.PartView.{PartView, elems, monos, mono_at}
+use Rattle.alb_table.specs.Table as View
 use Rattle.alb_table.specs.declared.part.Elem.{Elem}
 use Rattle.alb_table.specs.declared.part.Elem.TheVariants.{Gen, Prod}
 use Rattle.alb_table.specs.Right.{IsRight}
 use Rattle.alb_table.specs.RightTable.{basis_monos, mono_entry}
-use Rattle.alb_table.specs.Table.{Table, IsTable, IsPartOf, IsElementOf, GeneratorBelow, count_products}
 use Rattle.alb_table.proofs.GridLemmas.{get_some}
 use Rattle.alb_table.proofs.MonoLemmas.{elem_generator, mono_step}
 use Rattle.alb_table.proofs.RightTables.{length-monos, numbered}

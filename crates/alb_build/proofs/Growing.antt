@@ -4,10 +4,8 @@ use Rattle.alb_mono.specs.Listing.{Each}
 use Rattle.alb_mono.specs.Tree.{Tree, node, type_plus, degree}
 use Rattle.alb_poly.specs.Instance.{Form}
 use Rattle.alb_poly.specs.Consequence.{AreMultilinear}
-use Rattle.alb_table.specs.PartView.{PartView, type_at, monos}
-use Rattle.alb_table.specs.Entry.{table_product}
-use Rattle.alb_table.specs.Table.{Table, IsTable}
-use Rattle.alb_table.specs.Right.{AreHigh, IsOfType, IsTypeTo, IsBasisTo, IsWithin, IsRight, place_of, entry_by}
+use Rattle.alb_table.specs.Table.{PartView, type_at, monos, table_product, Table, IsTable}
+use Rattle.alb_table.specs.Right.{AreHigh, IsOfType, IsTypeTo, IsBasisTo, IsWithinDegree, IsRight, place_of, entry_by}
 use Rattle.alb_table.specs.RightTable.{basis_monos, mono_entry}
 use Rattle.alb_table.specs.Block.{AreOriginsAt, AreFreeAt, IsEntryAt, IsColumnAt}
 use Rattle.alb_table.proofs.PartLemmas.{sum-plus}
@@ -25,7 +23,7 @@ module _ (fs : List Form) (t : Table) (tab : IsTable t) (right : IsRight t.p fs 
   old-bases w ty = basis-kept new t.degree next t.parts w (length-monos t.parts) ty.degree
 
   -- the older entries stay
-  pub old-entries : (b c : Tree) → IsBasisTo t.p fs t.target t.degree b → IsBasisTo t.p fs t.target t.degree c → IsWithin t.target t.degree (node b c) →
+  pub old-entries : (b c : Tree) → IsBasisTo t.p fs t.target t.degree b → IsBasisTo t.p fs t.target t.degree c → IsWithinDegree t.target t.degree (node b c) →
       mono_entry (t.parts ++ new) b c ≡ mono_entry t.parts b c
   old-entries b c hb hc w =
       let nb = basis-number fs t tab right b hb in

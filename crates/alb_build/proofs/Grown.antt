@@ -4,13 +4,11 @@ use Rattle.std.proofs.lemmas.Grind.{flat_map-append}
 use Rattle.gf_field.proofs.Table.{IsPrime-from_table}
 use Rattle.gf_sums.proofs.Totals.{total-append}
 use Rattle.alb_mono.specs.Listing.{Each}
-use Rattle.alb_mono.specs.Types.{IsTypeWithin}
+use Rattle.alb_mono.specs.Tree.{IsTypeWithin}
 use Rattle.alb_mono.proofs.TypesListing.{types_of-listing}
 use Rattle.alb_mono.proofs.ListingLemmas.{each-weaker}
 use Rattle.alb_poly.specs.Instance.{Form}
-use Rattle.alb_table.specs.PartView.{PartView, elems}
-use Rattle.alb_table.specs.Limits.{next_types, next_products, most_products}
-use Rattle.alb_table.specs.Table.{Table, IsTable, IsPartOf, IsCountable, count_products, count_coefficients, extended}
+use Rattle.alb_table.specs.Table.{PartView, elems, next_types, next_products, most_products, Table, IsTable, IsPartOf, IsCountable, count_products, count_coefficients, extended}
 use Rattle.alb_table.proofs.TableLemmas.{extend_table, old_degrees}
 use Rattle.alb_block.specs.View.{BlockView}
 use Rattle.alb_build.specs.Part.{ArePartsOf}

@@ -5,15 +5,12 @@ use Rattle.std.proofs.lemmas.Bool.{cases_Bool}
 use Rattle.std.proofs.lemmas.Grind.{flat_map-append}
 use Rattle.std.proofs.lemmas.List.{get_or_append_left, append-nil}
 use Rattle.alb_mono.specs.Listing.{Each}
-use Rattle.alb_mono.specs.Tree.{Tree, leaf, type_plus}
-use Rattle.alb_mono.specs.Types.{rising}
+use Rattle.alb_mono.specs.Tree.{Tree, leaf, type_plus, rising}
 use Rattle.alb_poly.specs.Poly.{list_eq}
 use Rattle.alb_table.specs.declared.part.Elem.{Elem}
 use Rattle.alb_rows.specs.Row.{comb}
-use Rattle.alb_table.specs.Grid.{find_entry}
-use Rattle.alb_table.specs.PartView as View
-use Rattle.alb_table.specs.PartView.{PartView, first_of, dim_of, entries_at, origins_at, elems, types, type_at, monos, monos_after, mono_at}
-use Rattle.alb_table.specs.Entry.{products, entry_of, table_product}
+use Rattle.alb_table.specs.Table.{find_entry, PartView, first_of, dim_of, entries_at, origins_at, elems, types, type_at, monos, monos_after, mono_at, products, entry_of, table_product}
+use Rattle.alb_table.specs.Table as View
 use Rattle.alb_table.specs.RightTable.{basis_monos}
 use Rattle.alb_table.proofs.PartLemmas.{list_eq-other, dim-extend, first-extend, products-extend, length-types}
 use Rattle.alb_table.proofs.RangeLemmas.{range_within}

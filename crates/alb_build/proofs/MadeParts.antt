@@ -7,22 +7,20 @@ use Rattle.std.proofs.lemmas.Nat.{mod_below}
 use Rattle.gf_field.specs.Modular.{IsSameMod}
 use Rattle.gf_field.proofs.Mod.{same, of_mod, plus, ◌⊙◌}
 use Rattle.alb_mono.specs.Listing.{Each}
-use Rattle.alb_mono.specs.Types.{rising, IsTypeWithin}
+use Rattle.alb_mono.specs.Tree.{rising, IsTypeWithin}
 use Rattle.alb_poly.specs.Instance.{Form}
 use Rattle.alb_poly.specs.Consequence.{AreMultilinear}
 use Rattle.alb_rows.specs.Row.{Cells}
 use Rattle.alb_rows.specs.Span.{IsPivot}
 use Rattle.alb_rows.proofs.SpanLemmas.{difference_zero}
 use Rattle.alb_reduce.specs.Reduction.{Reduction, kept}
-use Rattle.alb_reduce.specs.Echelon.{IsKept}
+use Rattle.alb_reduce.specs.Echelon.{AreKeptRows}
 use Rattle.alb_reduce.proofs.DiagonalLemmas.{zero_mod}
 use Rattle.alb_reduce.proofs.EchelonLemmas.{positive, no_pivot, found_row}
 use Rattle.alb_reduce.proofs.StateLemmas.{found_pivot, row_leads, row_below}
-use Rattle.alb_table.specs.PartView.{PartView, elems}
-use Rattle.alb_table.specs.Limits.{wide}
+use Rattle.alb_table.specs.Table.{PartView, elems, wide, Table, IsTable, count_products}
 use Rattle.alb_table.specs.Right.{AreHigh}
 use Rattle.alb_table.specs.RightTable.{IsRightTable}
-use Rattle.alb_table.specs.Table.{Table, IsTable, count_products}
 use Rattle.alb_table.proofs.PartLemmas.{elems_step}
 use Rattle.alb_block.specs.View.{BlockView}
 use Rattle.alb_block.proofs.Existence.{HasBlock, block-exists}
@@ -73,7 +71,7 @@ second-is (inr b) n = refl
 abbrev free_of : List ℕ → ℕ → List Bool
 free_of order n = listed_to (λ k. is_second (contains-or order (n - 1 - k))) n
 
-module _ (r : Reduction) (n : ℕ) (order : List ℕ) (k : IsKept r.p n order r.rows) where
+module _ (r : Reduction) (n : ℕ) (order : List ℕ) (k : AreKeptRows r.p n order r.rows) where
   has-pivot : (c : ℕ) → Contains order c → IsPivot r.p (kept r) c
   has-pivot c h = found_pivot r.p order r.rows c h.0 k.echelon h.1 (get_or_default order h.0 0 c h.1 ∙ h.2)
 
@@ -113,7 +111,7 @@ abbrev entry_made : (r : Reduction) (order numbers : List ℕ) (k : ℕ) → Con
 entry_made r order numbers k (inl h) = map (negated r.p numbers) (reverse (drop 1 (get_or r.rows h.0 [])))
 entry_made r order numbers k (inr none) = (get_or numbers k 0, 1) ∷ []
 
-new-entry_made : (r : Reduction) (n : ℕ) (order numbers : List ℕ) (k : ℕ) → IsKept r.p r.columns order r.rows → r.columns ≡ n → length numbers ≡ n →
+new-entry_made : (r : Reduction) (n : ℕ) (order numbers : List ℕ) (k : ℕ) → AreKeptRows r.p r.columns order r.rows → r.columns ≡ n → length numbers ≡ n →
     (o : Contains order (length numbers - 1 - k) ⊎ (Contains order (length numbers - 1 - k) → ⊥)) → IsNewEntry r numbers k (entry_made r order numbers k o)
 new-entry_made r n order numbers k h w e (inl c) =
     let column : ℕ = length numbers - 1 - k in
@@ -130,7 +128,7 @@ new-entry_made r n order numbers k h w e (inr none) =
     new-free r numbers k (length numbers - 1 - k) ((get_or numbers k 0, 1) ∷ []) refl (not-pivot r r.columns order h (length numbers - 1 - k) none) refl
 
 -- THE PART of a block
-part-made : (first : ℕ) (b : BlockView) (order : List ℕ) → IsKept b.reduced.p b.reduced.columns order b.reduced.rows → b.reduced.columns ≡ length b.columns →
+part-made : (first : ℕ) (b : BlockView) (order : List ℕ) → AreKeptRows b.reduced.p b.reduced.columns order b.reduced.rows → b.reduced.columns ≡ length b.columns →
     (q : PartView) × IsPartMade first b q
 part-made first b order h w =
     let free : List Bool = free_of order (length b.columns) in

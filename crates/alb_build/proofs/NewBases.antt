@@ -6,18 +6,15 @@ use Rattle.std.specs.declared.cmp.Ordering.TheVariants.{Less}
 use Rattle.std.proofs.lemmas.List.{length-reverse, reverse-reverse, length-map, get_or_default}
 use Rattle.std.proofs.lemmas.Map.Keys.{Less-from_sorted}
 use Rattle.alb_mono.specs.Listing.{IsIn}
-use Rattle.alb_mono.specs.Tree.{Tree, leaf, node, cmp_trees}
-use Rattle.alb_mono.specs.Types.{rising}
+use Rattle.alb_mono.specs.Tree.{Tree, leaf, node, cmp_trees, rising}
 use Rattle.alb_poly.specs.Instance.{Form}
 use Rattle.alb_rows.specs.Span as Vectors
 use Rattle.alb_reduce.specs.Reduction.{kept}
 use Rattle.alb_table.specs.declared.part.Elem.{Elem}
 use Rattle.alb_table.specs.declared.part.Elem.TheVariants.{Prod}
 use Rattle.alb_build.specs.Part.{elements_of}
-use Rattle.alb_table.specs.PartView as View
-use Rattle.alb_table.specs.PartView.{PartView, first_of, dim_of, elems, monos, mono_at}
-use Rattle.alb_table.specs.Entry.{products}
-use Rattle.alb_table.specs.Table.{Table, IsTable, extended}
+use Rattle.alb_table.specs.Table as View
+use Rattle.alb_table.specs.Table.{PartView, first_of, dim_of, elems, monos, mono_at, products, Table, IsTable, extended}
 use Rattle.alb_table.specs.Block.{AreFreeAt}
 use Rattle.alb_table.specs.RightTable.{basis_monos, mono_entry}
 use Rattle.alb_table.proofs.MonoLemmas.{mono_step}

@@ -7,18 +7,14 @@ use Rattle.std.proofs.lemmas.Bool.Decides.{nat_tests}
 use Rattle.std.proofs.lemmas.Cmp.{tied_itself}
 use Rattle.gf_sums.specs.Sums.{Comb, reindex}
 use Rattle.alb_mono.specs.Listing.{Each, IsIn}
-use Rattle.alb_mono.specs.Tree.{Tree, cmp_trees}
+use Rattle.alb_mono.specs.Tree.{Tree, cmp_trees, type_plus}
 use Rattle.alb_mono.proofs.Order.{cmp_trees_total}
 use Rattle.alb_rows.specs.Row.{Cells}
-use Rattle.alb_table.specs.Grid.{find_entry, same_pair}
-use Rattle.alb_mono.specs.Tree.{type_plus}
+use Rattle.alb_table.specs.Table.{same_pair, find_entry, PartView, elems, type_at, entries_at, monos, mono_at, products, entry_of, Table, IsTable, extended}
 use Rattle.alb_poly.specs.Instance.{Form}
 use Rattle.alb_table.specs.declared.part.Elem.{Elem}
 use Rattle.alb_table.specs.declared.part.Elem.TheVariants.{Prod}
-use Rattle.alb_table.specs.PartView as View
-use Rattle.alb_table.specs.PartView.{PartView, elems, type_at, entries_at, monos, mono_at}
-use Rattle.alb_table.specs.Entry.{products, entry_of}
-use Rattle.alb_table.specs.Table.{Table, IsTable, extended}
+use Rattle.alb_table.specs.Table as View
 use Rattle.alb_table.specs.Right.{IsRight}
 use Rattle.alb_table.specs.RightTable.{basis_monos, mono_entry}
 use Rattle.alb_table.proofs.PartLemmas.{products-extend}

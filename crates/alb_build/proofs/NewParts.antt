@@ -13,9 +13,7 @@ use Rattle.alb_poly.specs.Instance.{Form}
 use Rattle.alb_rows.specs.Row.{Cells, ColumnsBelow}
 use Rattle.alb_rows.specs.Span.{IsPivot}
 use Rattle.alb_reduce.specs.Reduction.{Reduction, kept}
-use Rattle.alb_table.specs.PartView.{PartView, first_of, dim_of, elems}
-use Rattle.alb_table.specs.Entry.{products}
-use Rattle.alb_table.specs.Table.{Table, IsElementOf, IsPartOf, IsRowAmong}
+use Rattle.alb_table.specs.Table.{PartView, first_of, dim_of, elems, products, Table, IsElementOf, IsPartOf, IsRowAmong}
 use Rattle.alb_linear.proofs.IdentityLemmas.{list_eq-itself}
 use Rattle.alb_table.proofs.PartLemmas.{list_eq-other}
 use Rattle.alb_table.proofs.TypesTo.{apart}

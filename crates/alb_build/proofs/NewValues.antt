@@ -5,21 +5,19 @@ use Rattle.std.proofs.lemmas.Bool.{cases_Bool}
 use Rattle.gf_sums.specs.Sums.{Comb, reindex}
 use Rattle.alb_mono.specs.Listing.{Each}
 use Rattle.alb_mono.specs.Tree.{Tree, leaf, node}
-use Rattle.alb_poly.specs.Algebra.{unit}
+use Rattle.alb_poly.specs.Textbook.{unit}
 use Rattle.alb_poly.specs.Instance.{Form}
 use Rattle.alb_rows.specs.Row.{Cells, comb, entry, ColumnsBelow}
 use Rattle.alb_rows.specs.Span as Vectors
 use Rattle.alb_reduce.specs.Reduction.{kept}
-use Rattle.alb_table.specs.PartView.{PartView, elems, monos, mono_at}
-use Rattle.alb_table.specs.Entry.{products, table_product}
-use Rattle.alb_table.specs.Table.{Table, IsTable, extended}
+use Rattle.alb_table.specs.Table.{PartView, elems, monos, mono_at, products, table_product, Table, IsTable, extended}
 use Rattle.alb_table.specs.Block.{IsColumnAt, IsEntryAt, IsFreeAt}
 use Rattle.alb_table.specs.Right.{IsRight, place_of}
 use Rattle.alb_table.specs.RightTable.{basis_monos, mono_entry}
 use Rattle.alb_table.specs.Columns.{IsEntryRow}
 use Rattle.alb_poly.proofs.Multilinear.{each-from}
 use Rattle.std.proofs.lemmas.List.{get_or_default}
-use Rattle.alb_table.proofs.Numbers.{place-mono}
+use Rattle.alb_table.proofs.Numbers.{place-mono, place-append}
 use Rattle.alb_table.proofs.RangeLemmas.{product_of, type_of_range}
 use Rattle.alb_table.proofs.RightTables.{numbered, length-monos}
 use Rattle.alb_block.specs.Meaning.{column_monos}
@@ -31,7 +29,6 @@ use Rattle.alb_build.proofs.EntryRows.{IsFreeCell, cells-free, free-full}
 use Rattle.alb_build.proofs.KeptParts.{monos-kept}
 use Rattle.alb_build.proofs.Numbering.{before, length-numbers, number-at}
 use Rattle.alb_build.proofs.NewBases.{pair_mono, free-long, long, place-is, no-pivot, wide_is}
-use Rattle.alb_table.proofs.Numbers.{place-append}
 use Rattle.alb_build.proofs.NewEntries.{reindex-agree, reindex-twice, free-mono, entry-found, pair-in}
 use Rattle.alb_build.proofs.Places.{HasPart}
 

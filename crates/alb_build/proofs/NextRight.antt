@@ -4,9 +4,7 @@ use Rattle.alb_mono.specs.Listing.{Each, IsIn}
 use Rattle.alb_mono.proofs.TypesListing.{types_of-listing}
 use Rattle.alb_poly.specs.Consequence.{AreMultilinear}
 use Rattle.alb_poly.specs.Instance.{Form}
-use Rattle.alb_table.specs.PartView.{PartView, elems}
-use Rattle.alb_table.specs.Limits.{next_types, next_products}
-use Rattle.alb_table.specs.Table.{Table, IsTable, count_coefficients, extended}
+use Rattle.alb_table.specs.Table.{PartView, elems, next_types, next_products, Table, IsTable, count_coefficients, extended}
 use Rattle.alb_table.specs.Right.{AreHigh, IsTypeTo, IsRight}
 use Rattle.alb_table.specs.RightTable.{basis_monos, mono_entry}
 use Rattle.alb_table.proofs.TableLemmas.{old_degrees, new_degrees}

@@ -6,8 +6,7 @@ use Rattle.alb_mono.proofs.ListingLemmas.{each-append, each-weaker}
 use Rattle.alb_poly.specs.Poly.{list_eq}
 use Rattle.alb_table.proofs.PartLemmas.{elems_step}
 use Rattle.alb_poly.specs.Instance.{Form}
-use Rattle.alb_table.specs.PartView.{PartView, elems, mono_at, origins_at}
-use Rattle.alb_table.specs.Table.{Table, IsTable, CoversType, count_coefficients, extended}
+use Rattle.alb_table.specs.Table.{PartView, elems, mono_at, origins_at, Table, IsTable, CoversType, count_coefficients, extended, next_types, next_products, most_products, most_coefficients}
 use Rattle.alb_table.specs.RightTable.{IsRightTable, mono_entry, instance_at}
 use Rattle.alb_table.proofs.RightTables.{length-monos}
 use Rattle.alb_block.specs.View.{BlockView}
@@ -19,7 +18,6 @@ use Rattle.alb_mono.specs.Tree.{Tree}
 use Rattle.alb_poly.specs.Consequence.{AreMultilinear}
 use Rattle.alb_table.specs.Block.{AreOriginsAt}
 use Rattle.alb_table.specs.Right.{AreHigh, IsTypeTo}
-use Rattle.alb_table.specs.Limits.{next_types, next_products, most_products, most_coefficients}
 use Rattle.alb_linear.proofs.LinearLemmas.{each_from_all}
 use Rattle.alb_poly.proofs.Multilinear.{each-from}
 use Rattle.alb_build.proofs.Growing.{origins-stay}

@@ -4,7 +4,7 @@ use Rattle.std.proofs.lemmas.List.{append-nil, length-reverse, map-append, rever
 use Rattle.std.proofs.lemmas.Grind.{flat_map-append}
 use Rattle.alb_mono.specs.Listing.{Each}
 use Rattle.alb_block.proofs.ListLemmas.{each-reverse}
-use Rattle.alb_table.specs.PartView.{PartView, part_view, elems}
+use Rattle.alb_table.specs.Table.{PartView, part_view, elems}
 use Rattle.alb_table.specs.declared.part.Part.{Part}
 use Rattle.alb_block.specs.View.{BlockView, block_view}
 use Rattle.alb_block.specs.declared.block.Block.{Block}

@@ -6,8 +6,7 @@ use Rattle.alb_mono.specs.Listing.{Each, IsIn}
 use Rattle.alb_poly.specs.Poly.{list_eq}
 use Rattle.alb_poly.specs.Instance.{Form}
 use Rattle.alb_table.specs.declared.part.Elem.{Elem}
-use Rattle.alb_table.specs.PartView.{PartView, first_of, dim_of, entries_at, origins_at, elems}
-use Rattle.alb_table.specs.Table.{Table}
+use Rattle.alb_table.specs.Table.{PartView, first_of, dim_of, entries_at, origins_at, elems, Table}
 use Rattle.alb_linear.proofs.IdentityLemmas.{list_eq-sound, list_eq-itself}
 use Rattle.alb_table.proofs.PartLemmas.{list_eq-other}
 use Rattle.alb_block.specs.View.{BlockView}

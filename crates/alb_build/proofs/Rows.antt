@@ -6,7 +6,7 @@ use Rattle.alb_mono.specs.Listing.{Each}
 use Rattle.alb_mono.specs.Tree.{Tree}
 use Rattle.alb_poly.specs.Poly.{Poly, IsSamePoly}
 use Rattle.alb_poly.specs.Instance.{Form}
-use Rattle.alb_table.specs.Block.{spread, InSpan, IsTupleAt, tuple_row, IsPivot, ArePivotsAt, AreOriginsAt}
+use Rattle.alb_table.specs.Block.{spread, InNamedSpan, IsTupleAt, tuple_row, IsPivotMonomial, ArePivotsAt, AreOriginsAt}
 use Rattle.alb_mono.proofs.ListingLemmas.{each-at}
 use Rattle.alb_poly.proofs.Multilinear.{each-from}
 
@@ -17,14 +17,14 @@ spread-agree : {N : Type 0} (Named : N → Type 0) (row row' : N → Poly) (item
 spread-agree Named row row' [] same a = refl
 spread-agree Named row row' (t ∷ items) same a = rw (same t.1 a.0, spread-agree Named row row' items same a.1) refl
 
-span-agree : {N : Type 0} (p : ℕ) (Named : N → Type 0) (row row' : N → Poly) (x : Poly) → ((n : N) → Named n → row n ≡ row' n) → InSpan p Named row x → InSpan p Named row' x
+span-agree : {N : Type 0} (p : ℕ) (Named : N → Type 0) (row row' : N → Poly) (x : Poly) → ((n : N) → Named n → row n ≡ row' n) → InNamedSpan p Named row x → InNamedSpan p Named row' x
 span-agree p Named row row' x same s = record {
   items = s.items;
   named = s.named;
   gives = subst (λ y. IsSamePoly p x y) (spread-agree Named row row' s.items same s.named) s.gives;
 }
 
-pivot-agree : {N : Type 0} (p : ℕ) (Named : N → Type 0) (row row' : N → Poly) (m : Tree) → ((n : N) → Named n → row n ≡ row' n) → IsPivot p Named row m → IsPivot p Named row' m
+pivot-agree : {N : Type 0} (p : ℕ) (Named : N → Type 0) (row row' : N → Poly) (m : Tree) → ((n : N) → Named n → row n ≡ row' n) → IsPivotMonomial p Named row m → IsPivotMonomial p Named row' m
 pivot-agree p Named row row' m same v = record {
   element = v.element;
   in_span = span-agree p Named row row' v.element same v.in_span;
@@ -52,7 +52,7 @@ module _ (p : ℕ) (fs : List Form) (target : List ℕ) (d : ℕ) (entry entry' 
     are_pivots = pivots-agree o.pivots o.are_pivots;
     count = o.count;
     spans = λ n h.
-        let s : InSpan p (Contains names) (tuple_row fs entry) (tuple_row fs entry' n) = subst (InSpan p (Contains names) (tuple_row fs entry)) (same n h) (o.spans n h) in
+        let s : InNamedSpan p (Contains names) (tuple_row fs entry) (tuple_row fs entry' n) = subst (InNamedSpan p (Contains names) (tuple_row fs entry)) (same n h) (o.spans n h) in
         span-agree p (Contains names) (tuple_row fs entry) (tuple_row fs entry') (tuple_row fs entry' n)
         (λ k c. same k (named-in k c)) s;
   }

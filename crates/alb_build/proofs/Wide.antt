@@ -4,15 +4,13 @@ use Rattle.std.specs.Prelude.{Err, Some, None, nat_lt}
 use Rattle.std.proofs.lemmas.Bool.Decides.{nat_tests}
 use Rattle.std.proofs.lemmas.List.{length-reverse}
 use Rattle.alb_mono.specs.Listing.{Each}
-use Rattle.alb_mono.specs.Types.{types_of, IsTypeWithin}
+use Rattle.alb_mono.specs.Tree.{types_of, IsTypeWithin}
 use Rattle.alb_mono.proofs.TypesListing.{types_of-listing}
 use Rattle.alb_mono.proofs.ListingLemmas.{each-at}
 use Rattle.alb_poly.specs.Instance.{Form}
-use Rattle.alb_table.specs.Table.{Table}
-use Rattle.alb_table.specs.Entry.{products}
-use Rattle.alb_table.specs.Limits.{next_types, wide, most_of_type}
+use Rattle.alb_table.specs.Table.{Table, products, next_types, wide, most_of_type}
 use Rattle.alb_table.specs.End.{first_wide}
-use Rattle.alb_block.specs.Asked.{setting_of, Answers}
+use Rattle.alb_block.specs.Asked.{setting_of, BlockAnswers}
 use Rattle.alb_block.specs.View.{BlockView}
 use Rattle.alb_block.specs.declared.error.BlockStop.{BlockStop}
 use Rattle.alb_block.specs.declared.error.BlockStop.TheVariants.{TooWide, NoMemory}
@@ -49,7 +47,7 @@ first-found fs t (x ∷ ws) (suc k) (b ∷ bs) w a l g m =
     rw e (first-found fs t ws k bs w a.1 (omega arith) g m)
 
 pub wide-stop : (fs : List Form) (t : Table) (ws : List (List ℕ)) (k : ℕ) (bs : List BlockView) (x : List ℕ) (e : BlockStop) → AreBlocks fs t (take k ws) bs → k < length ws →
-    get_or ws k x ≡ x → ws ≡ next_types t → Answers (setting_of fs t x) (Err e) → IsWideStop t e
+    get_or ws k x ≡ x → ws ≡ next_types t → BlockAnswers (setting_of fs t x) (Err e) → IsWideStop t e
 wide-stop fs t ws k bs x (TooWide w n) a l g s h =
     let r = length-reverse (products t.parts x) in
     let i : n ≡ wide t x = h.1 ∙ r in

@@ -1,9 +1,9 @@
 -- Laws that functions of `laws` state.
-use Rattle.gf_field.specs.Primes.{IsInTable}
+use Rattle.gf_field.specs.Modular.{IsInTable}
 use Rattle.alb_poly.specs.Consequence.{AreMultilinear}
 use Rattle.alb_table.specs.End.{End, IsEnd}
 use Rattle.alb_table.specs.Right.{AreHigh}
-use Rattle.alb_table.specs.RightFor.{RulesView, IsRightFor}
+use Rattle.alb_table.specs.RightTable.{RulesView, IsRightFor}
 use Rattle.alb_table.specs.Table.{Table, IsTarget}
 
 -- a table that is right for the rules, at which the building ends

@@ -1,10 +1,8 @@
 -- The table of the next degree, and what growing answers.
 use Rattle.std.specs.Prelude.{◌≡◌, ℕ, ◌<◌, ◌≤◌, List, [], ◌∷◌, Result, Ok, Err, Some}
 use Rattle.alb_poly.specs.Instance.{Form}
-use Rattle.alb_table.specs.PartView.{PartView}
-use Rattle.alb_table.specs.Table.{Table, extended}
-use Rattle.alb_table.specs.Limits.{next_types, wide, next_products, most_products, most_coefficients}
-use Rattle.alb_table.specs.RightFor.{RulesView, IsRightFor}
+use Rattle.alb_table.specs.Table.{PartView, Table, extended, next_types, wide, next_products, most_products, most_coefficients}
+use Rattle.alb_table.specs.RightTable.{RulesView, IsRightFor}
 use Rattle.alb_table.specs.End.{NextHas, IsEnd, end_of, first_wide}
 use Rattle.alb_block.specs.Asked.{setting_of, IsBlock}
 use Rattle.alb_block.specs.Meaning.{IsBlockAt}

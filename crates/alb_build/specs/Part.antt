@@ -2,10 +2,10 @@
 use Rattle.std.specs.Prelude.{◌≡◌, ◌↔◌, ℕ, ◌+◌, ◌-◌, ◌<◌, Bool, false, if◌then◌else◌, IsTrue, List, [], ◌∷◌, length, reverse, drop, slice_index, slice_index_or}
 use Rattle.gf_field.specs.Modular.{IsSameMod}
 use Rattle.gf_sums.specs.Sums.{total}
-use Rattle.alb_rows.specs.Row.{Cells, entry, ColumnsBelow, IsRowOver, LeadsWith}
+use Rattle.alb_rows.specs.Row.{Cells, entry, ColumnsBelow, IsRowOver, RowLeadsWith}
 use Rattle.alb_rows.specs.Span.{IsPivot, IsReducedRow}
 use Rattle.alb_reduce.specs.Reduction.{Reduction, kept}
-use Rattle.alb_table.specs.PartView.{PartView}
+use Rattle.alb_table.specs.Table.{PartView}
 use Rattle.alb_table.specs.declared.part.Elem.{Elem}
 use Rattle.alb_table.specs.declared.part.Elem.TheVariants.{Prod}
 use Rattle.alb_block.specs.View.{BlockView}
@@ -55,7 +55,7 @@ IsPivotEntry p numbers row es = AreNegated p numbers (reverse (drop 1 row)) es
 pub record HasPivotEntry (r : Reduction) (numbers : List ℕ) (column : ℕ) (es : Cells) : Type 0 where
   pub row : Cells
   pub reduced : IsReducedRow r.p (kept r) column (entry row)
-  pub leads : LeadsWith row (column, 1)
+  pub leads : RowLeadsWith row (column, 1)
   pub residues : IsRowOver r.p row
   pub below : ColumnsBelow r.columns row
   pub entry_is : IsPivotEntry r.p numbers row es

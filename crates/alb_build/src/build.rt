@@ -1,7 +1,7 @@
 ghost use Rattle.std.specs.Prelude.{IfOk};
-ghost use Rattle.alb_poly.specs.Rules.{forms};
+ghost use Rattle.alb_poly.specs.Consequence.{forms};
 ghost use Rattle.alb_table.specs.End.{IsEnd, end_of};
-ghost use Rattle.alb_table.specs.RightFor.{rules_view, AreRules, IsRightFor};
+ghost use Rattle.alb_table.specs.RightTable.{rules_view, AreRules, IsRightFor};
 
 use crate::step::{Step, next_step};
 use alb_mono::NoMemory;

@@ -1,7 +1,6 @@
 //! The sizes of blocks and parts.
 ghost use Rattle.std.specs.Prelude.{◌≡◌, ◌<◌, ◌^◌, map};
-ghost use Rattle.alb_table.specs.PartView.{part_view};
-ghost use Rattle.alb_table.specs.Table.{count_coefficients};
+ghost use Rattle.alb_table.specs.Table.{part_view, count_coefficients};
 ghost use Rattle.alb_block.specs.View.{block_view};
 ghost use Rattle.alb_build.specs.Part.{count_columns};
 

@@ -1,6 +1,6 @@
 //! The entries of the products of a block.
 ghost use Rattle.std.specs.Prelude.{◌≡◌, ◌+◌, ◌<◌, ◌≤◌, ◌^◌, length, map, IfOk};
-ghost use Rattle.alb_rows.specs.Row.{IsRowOver, ColumnsBelow, LeadsWith};
+ghost use Rattle.alb_rows.specs.Row.{IsRowOver, ColumnsBelow, RowLeadsWith};
 ghost use Rattle.alb_build.specs.Part.{AreFree, AreNumbers, IsNewEntry, AreNewEntries, IsPivotEntry, numbers_from};
 
 use alb_block::Block;

@@ -1,7 +1,7 @@
 //! The parts of the next degree.
 ghost use Rattle.std.specs.Prelude.{◌≡◌, ◌+◌, ◌<◌, ◌^◌, length, map, reverse, IfOk};
 ghost use Rattle.alb_mono.specs.Listing.{Each};
-ghost use Rattle.alb_table.specs.PartView.{part_view, elems};
+ghost use Rattle.alb_table.specs.Table.{part_view, elems};
 ghost use Rattle.alb_block.specs.View.{block_view};
 ghost use Rattle.alb_build.specs.Part.{elements_of, FitsBlock, AreMade, ArePartsOf, IsPartMade, count_columns};
 

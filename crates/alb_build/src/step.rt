@@ -1,8 +1,8 @@
 //! One degree more, or the end.
 ghost use Rattle.std.specs.Prelude.{◌≡◌, ◌<◌, ◌++◌, [], ◌∷◌, map, sum, IfOk, IfErr, OnOk};
-ghost use Rattle.alb_poly.specs.Rules.{forms};
-ghost use Rattle.alb_table.specs.Limits.{next_types};
-ghost use Rattle.alb_table.specs.RightFor.{rules_view, AreRules, IsRightFor};
+ghost use Rattle.alb_poly.specs.Consequence.{forms};
+ghost use Rattle.alb_table.specs.Table.{next_types};
+ghost use Rattle.alb_table.specs.RightTable.{rules_view, AreRules, IsRightFor};
 ghost use Rattle.alb_block.specs.View.{block_view};
 ghost use Rattle.alb_build.specs.Next.{AreBlocks, IsWideStop, StepsTo};
 

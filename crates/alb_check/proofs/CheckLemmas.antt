@@ -9,23 +9,19 @@ use Rattle.alb_mono.proofs.Both.{and_left, and_right}
 use Rattle.alb_mono.specs.Listing.{Each}
 use Rattle.alb_mono.specs.Tree.{type_le}
 use Rattle.alb_poly.specs.Poly.{Poly}
-use Rattle.alb_poly.specs.Instance.{Form}
-use Rattle.alb_poly.specs.Rules.{form}
+use Rattle.alb_poly.specs.Instance.{Form, IsMultilinearForm}
+use Rattle.alb_poly.specs.Consequence.{form, form_at, IsConsequence}
 use Rattle.alb_poly.specs.declared.rules.Linear.{Linear}
-use Rattle.alb_poly.specs.Consequence.{form_at, IsConsequence}
-use Rattle.alb_poly.specs.Instance.{IsMultilinearForm}
 use Rattle.alb_poly.proofs.Multilinear.{each-from}
 use Rattle.alb_linear.specs.Identity.{IsLinearized}
 use Rattle.alb_linear.proofs.LinearLemmas.{all_from_each}
 use Rattle.alb_problem.specs.Satisfied.{AreSameVectors}
-use Rattle.alb_rows.specs.Row.{Cells, AreResidues}
+use Rattle.alb_rows.specs.Row.{Cells, AreCellResidues}
 use Rattle.alb_check.specs.declared.raw.RawEntry.{RawEntry}
-use Rattle.alb_check.specs.Raw.{Raw, IsRaw}
-use Rattle.alb_check.specs.Shape.{is_element, is_generator_right, are_generators_right, is_entry_right, shape_fault}
-use Rattle.alb_check.specs.TableAlgebra.{value, at_element, IsNilpotent}
-use Rattle.alb_check.specs.First.{AreZeroAtTuples}
+use Rattle.alb_check.specs.Raw.{Raw, IsRaw, is_element, is_generator_right, are_generators_right, is_entry_right, shape_fault}
+use Rattle.alb_check.specs.TableAlgebra.{value, at_element, IsNilpotent, AreZeroAtTuples}
 use Rattle.alb_check.specs.Products.{vectors, GivesGenerators}
-use Rattle.alb_check.specs.Answers.{AreRules, SatisfiesIdentities, RefutesText}
+use Rattle.alb_check.specs.Verdict.{AreCheckRules, SatisfiesIdentities, RefutesText}
 use Rattle.alb_check.proofs.VectorLemmas.{alike_vector}
 use Rattle.alb_check.proofs.TableLemmas.{IsShaped, shaped, nilpotent, le_sum, element_from}
 use Rattle.alb_check.proofs.RefuteLemmas.{all_satisfied, value_zero, text_zero}
@@ -60,12 +56,12 @@ generator_values (None ∷ os) zero = refl
 generator_values (Some k ∷ os) zero = refl
 generator_values (o ∷ os) (suc g) = generator_values os g
 
-row_residue : (p : ℕ) (o : Option ℕ) → 1 < p → AreResidues p (generator_row o)
+row_residue : (p : ℕ) (o : Option ℕ) → 1 < p → AreCellResidues p (generator_row o)
 row_residue p None h i d l = absurd (omega arith)
 row_residue p (Some k) h zero d l = h
 row_residue p (Some k) h (suc i) d l = absurd (omega arith)
 
-row_residues : (p : ℕ) (os : List (Option ℕ)) → 1 < p → Each (λ r. AreResidues p r) (map generator_row os)
+row_residues : (p : ℕ) (os : List (Option ℕ)) → 1 < p → Each (λ r. AreCellResidues p r) (map generator_row os)
 row_residues p [] h = tt
 row_residues p (o ∷ os) h = (row_residue p o h, row_residues p os h)
 
@@ -73,7 +69,7 @@ pub gives_generators : (t : Raw) (rows : List Cells) → rows ≡ map generator_
 gives_generators t rows e = subst (GivesGenerators t) (sym e) record {
   long = length-map t.generators generator_row;
   values = generator_values t.generators;
-  residues = λ p h. all_from_each (λ r. AreResidues p r) (map generator_row t.generators) (row_residues p t.generators h);
+  residues = λ p h. all_from_each (λ r. AreCellResidues p r) (map generator_row t.generators) (row_residues p t.generators h);
 }
 
 -- ---- the numbers of elements
@@ -111,7 +107,7 @@ module _ (target : List ℕ) (p : ℕ) (t : Raw) (right : IsShaped target p t) w
 
 -- ---- what a table that passes shows
 
-module _ (p : ℕ) (target : List ℕ) (ls : List Form) (t : Raw) (rules : AreRules p target ls) (is : IsRaw p (length target) t) (shape : shape_fault target p t ≡ None) where
+module _ (p : ℕ) (target : List ℕ) (ls : List Form) (t : Raw) (rules : AreCheckRules p target ls) (is : IsRaw p (length target) t) (shape : shape_fault target p t ≡ None) where
   right : IsShaped target p t
   right = shaped target p t shape
 

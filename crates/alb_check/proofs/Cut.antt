@@ -14,16 +14,15 @@ use Rattle.alb_mono.specs.Listing.{Each}
 use Rattle.alb_mono.specs.Tree.{Tree, leaf, node, degree, type_of, type_le, are_below, same_tree}
 use Rattle.alb_mono.proofs.Both.{and_left, and_right}
 use Rattle.alb_mono.proofs.Leaves.{below_from_test, length-type_of}
-use Rattle.alb_poly.specs.Algebra.{evaluate, evaluate_poly, unit}
+use Rattle.alb_poly.specs.Textbook.{evaluate, evaluate_poly, unit}
 use Rattle.alb_poly.specs.Poly.{Poly}
 use Rattle.alb_poly.specs.Instance.{Form, fill, instance, IsMultilinear}
 use Rattle.alb_poly.specs.Consequence.{form_at, IsConsequence, AreMultilinear}
 use Rattle.alb_poly.proofs.Multilinear.{each-from, multilinear-below}
 use Rattle.alb_poly.proofs.Parts.{multilinear_at}
 use Rattle.alb_poly.proofs.Consequence.{itself', tree_tells, poly_alike, consequence-instance}
-use Rattle.alb_table.specs.Leading.{SameType, IsZeroAt}
+use Rattle.alb_table.specs.Right.{SameType, IsZeroAt, mono_value, poly_value, IsBasis, IsPart, IsTypeTo, IsWithinDegree}
 use Rattle.alb_table.specs.Block.{spread}
-use Rattle.alb_table.specs.Right.{mono_value, poly_value, IsBasis, IsPart, IsTypeTo, IsWithin}
 use Rattle.alb_table.proofs.Bases.{IsTable}
 use Rattle.alb_table.proofs.Types.{type-node, type-turned, type-listed}
 use Rattle.alb_table.proofs.Coefficients.{keep, filter-each, coefficient-kept}
@@ -207,7 +206,7 @@ passes-degree top x h =
     let l : type_le (type_of (length top) x) top ≡ true = and_right (are_below (length top) x) (type_le (type_of (length top) x) top) h in
     omega (arith, degree-type (length top) x (below_from_test (length top) x b), le_sum (type_of (length top) x) top (length-type_of (length top) x) l)
 
-pub types-cut : (target : List ℕ) (d : ℕ) (top : List ℕ) → IsTypeTo target d top → IsCut (passes_type top) (IsWithin target d)
+pub types-cut : (target : List ℕ) (d : ℕ) (top : List ℕ) → IsTypeTo target d top → IsCut (passes_type top) (IsWithinDegree target d)
 types-cut target d top ty = record {
   left = λ l r h. let n = length top in
       rw (and_left (are_below n l) (are_below n r) (below (node l r) h)) (le-factor n (node l r) l top (λ j. omega arith) (le (node l r) h));

@@ -24,8 +24,7 @@ use Rattle.alb_poly.specs.Consequence.{AreMultilinear}
 use Rattle.alb_poly.proofs.Multilinear.{each-from, sum_cons}
 use Rattle.alb_poly.proofs.Types.{has_type-is}
 use Rattle.alb_poly.proofs.Consequence.{itself', tree_tells, alike_poly}
-use Rattle.alb_table.specs.Leading.{IsZeroAt}
-use Rattle.alb_table.specs.Right.{poly_value, IsTypeTo, IsWithin, IsBasisTo}
+use Rattle.alb_table.specs.Right.{IsZeroAt, poly_value, IsTypeTo, IsWithinDegree, IsBasisTo}
 use Rattle.alb_table.proofs.Bases.{IsTable}
 use Rattle.alb_table.proofs.Coefficients.{zero_or, keep, filter-each, each-coefficient, coefficient-kept, top-found, greater-turned}
 use Rattle.alb_table.proofs.Right.{within-type}
@@ -153,27 +152,27 @@ first-found p n pos f below = elim (top-found (by_types n) laws has f) [
     ]
 
 module _ (p : ℕ) (pos : 0 < p) (fs : List Form) (multi : AreMultilinear fs) (target : List ℕ) (d : ℕ) (entry : Tree → Tree → Poly)
-    (table : IsTable p fs (IsWithin target d) (IsBasisTo p fs target d) entry) (top : List ℕ) (ty : IsTypeTo target d top)
-    (g : Poly) (inside : Each (λ t. IsWithin target d t.1) g) (first : IsFirstType p top (poly_value entry g)) where
+    (table : IsTable p fs (IsWithinDegree target d) (IsBasisTo p fs target d) entry) (top : List ℕ) (ty : IsTypeTo target d top)
+    (g : Poly) (inside : Each (λ t. IsWithinDegree target d t.1) g) (first : IsFirstType p top (poly_value entry g)) where
   value-below : Each (λ t. are_below (length top) t.1 ≡ true) (poly_value entry g)
   value-below = each-from _ _ (poly_value entry g) (λ t k. subst (λ n. are_below n t.1 ≡ true) (sym ty.counts) k.within.below)
-      (poly-value-basis p pos fs (IsWithin target d) (IsBasisTo p fs target d) entry table g inside)
+      (poly-value-basis p pos fs (IsWithinDegree target d) (IsBasisTo p fs target d) entry table g inside)
 
   -- The value in the sub-table of the types at most `top` is the part of the normal form of the type `top`,
   pub sub-part : Alike p (cut_value (passes_type top) entry g) (part top (poly_value entry g))
-  sub-part = joined (itself' _ _ (cut-part p pos fs multi (IsWithin target d) entry table (passes_type top) (types-cut target d top ty) g inside))
+  sub-part = joined (itself' _ _ (cut-part p pos fs multi (IsWithinDegree target d) entry table (passes_type top) (types-cut target d top ty) g inside))
       (first-part p top (poly_value entry g) first value-below)
 
   -- so it is not zero.
   pub sub-nonzero : Alike p (cut_value (passes_type top) entry g) [] → ⊥
-  sub-nonzero z = cut-nonzero p pos fs multi (IsWithin target d) entry table (passes_type top) (types-cut target d top ty) g inside first.monomial
+  sub-nonzero z = cut-nonzero p pos fs multi (IsWithinDegree target d) entry table (passes_type top) (types-cut target d top ty) g inside first.monomial
       (let b : are_below (length top) first.monomial ≡ true = first.type.below in rw (b, first.type.counts) (type_le-itself top)) first.nonzero z
 
 -- A polynomial of the table whose value is not zero has a type `top` of the table for the two statements above.
-pub sub-found : (p : ℕ) → 0 < p → (fs : List Form) (target : List ℕ) (d : ℕ) (entry : Tree → Tree → Poly) → IsTable p fs (IsWithin target d) (IsBasisTo p fs target d) entry →
-    (g : Poly) → Each (λ t. IsWithin target d t.1) g → Alike p (poly_value entry g) [] ⊎ ((top : List ℕ) × IsTypeTo target d top × IsFirstType p top (poly_value entry g))
+pub sub-found : (p : ℕ) → 0 < p → (fs : List Form) (target : List ℕ) (d : ℕ) (entry : Tree → Tree → Poly) → IsTable p fs (IsWithinDegree target d) (IsBasisTo p fs target d) entry →
+    (g : Poly) → Each (λ t. IsWithinDegree target d t.1) g → Alike p (poly_value entry g) [] ⊎ ((top : List ℕ) × IsTypeTo target d top × IsFirstType p top (poly_value entry g))
 sub-found p pos fs target d entry table g inside =
-    let basis = poly-value-basis p pos fs (IsWithin target d) (IsBasisTo p fs target d) entry table g inside in
+    let basis = poly-value-basis p pos fs (IsWithinDegree target d) (IsBasisTo p fs target d) entry table g inside in
     elim (first-found p (length target) pos (poly_value entry g) (each-from _ _ (poly_value entry g) (λ t k. k.within.below) basis)) [
       | inl z ↦ inl z
       | inr m ↦ (elim (each-coefficient same_tree tree_tells (IsBasisTo p fs target d) (poly_value entry g) m.2.monomial basis) [

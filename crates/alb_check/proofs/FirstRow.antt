@@ -14,19 +14,16 @@ use Rattle.alb_mono.specs.Tree.{Tree, leaf, node, AreBelow, type_of, cmp_types, 
 use Rattle.alb_mono.proofs.Leaves.{below_from_test}
 use Rattle.alb_mono.proofs.ListingLemmas.{each-member}
 use Rattle.alb_mono.proofs.Order.{cmp_types_total}
-use Rattle.alb_poly.specs.Algebra.{evaluate, evaluate_poly, unit}
+use Rattle.alb_poly.specs.Textbook.{evaluate, evaluate_poly, unit}
 use Rattle.alb_poly.specs.Poly.{Poly}
 use Rattle.alb_poly.specs.Instance.{Form}
 use Rattle.alb_poly.proofs.Consequence.{tree_tells, poly_alike}
 use Rattle.alb_poly.proofs.Multilinear.{each-from}
 use Rattle.alb_rows.specs.Row.{Cells, comb, AreSameVector}
-use Rattle.alb_table.specs.Entry.{table_product}
-use Rattle.alb_table.specs.Leading.{IsZeroAt}
-use Rattle.alb_table.specs.PartView.{PartView, elems, type_at, monos, mono_at}
-use Rattle.alb_table.specs.Right.{IsRight, IsTypeTo, IsWithin, poly_value}
+use Rattle.alb_table.specs.Table.{table_product, PartView, elems, type_at, monos, mono_at, Table, IsTable}
+use Rattle.alb_table.specs.Right.{IsZeroAt, IsRight, IsTypeTo, IsWithinDegree, poly_value}
 use Rattle.alb_table.specs.RightTable.{basis_monos, mono_entry}
-use Rattle.alb_table.specs.Table.{Table, IsTable}
-use Rattle.alb_table.specs.Value.{IsVector, generator_vector, table_value}
+use Rattle.alb_table.specs.Value.{IsBasisRow, generator_vector, table_value}
 use Rattle.alb_table.proofs.Coefficients.{each-coefficient, greater-turned}
 use Rattle.alb_table.proofs.Numbers.{value-by_numbers, coefficient-reindex}
 use Rattle.alb_table.proofs.PartLemmas.{elems_step}
@@ -109,7 +106,7 @@ coefficient-first x cells p =
 
 module _ (fs : List Form) (t : Table) (tab : IsTable t) (right : IsRight t.p fs t.target t.degree (basis_monos t.parts) (mono_entry t.parts)) where
   -- the value over monomials
-  pub value-monos : (g : Poly) → Each (λ s. IsWithin t.target t.degree s.1) g → reindex (mono_at t.parts) (table_value t g) ≡ poly_value (mono_entry t.parts) g
+  pub value-monos : (g : Poly) → Each (λ s. IsWithinDegree t.target t.degree s.1) g → reindex (mono_at t.parts) (table_value t g) ≡ poly_value (mono_entry t.parts) g
   value-monos g inside =
       let below : Each (λ s. AreBelow (length t.target) s.1) g = each-from _ _ g (λ s w. below_from_test (length t.target) s.1 w.below) inside in
       ap (reindex (mono_at t.parts)) (poly-below (table_product t.parts) (generator_vector (length t.target)) (λ k. unit k) (length t.target)
@@ -121,7 +118,7 @@ module _ (fs : List Form) (t : Table) (tab : IsTable t) (right : IsRight t.p fs 
 
   -- The type of the first column of a row that is the value of a polynomial is a type of the table, and the first type of the
   -- normal form.
-  pub row-first : (g : Poly) (x : ℕ × ℕ) (cells : Cells) → Each (λ s. IsWithin t.target t.degree s.1) g → IsVector t.p (length (elems t.parts)) (x ∷ cells) →
+  pub row-first : (g : Poly) (x : ℕ × ℕ) (cells : Cells) → Each (λ s. IsWithinDegree t.target t.degree s.1) g → IsBasisRow t.p (length (elems t.parts)) (x ∷ cells) →
       AreSameVector t.p (comb (x ∷ cells)) (table_value t g) →
       IsTypeTo t.target t.degree (type_at t.parts x.0) × IsFirstType t.p (type_at t.parts x.0) (poly_value (mono_entry t.parts) g)
   row-first g x cells inside is value =

@@ -7,9 +7,7 @@ use Rattle.alb_mono.specs.Tree.{type_le}
 use Rattle.alb_mono.proofs.Both.{and_left, and_right}
 use Rattle.alb_poly.proofs.Multilinear.{sum_cons}
 use Rattle.alb_check.specs.declared.raw.RawEntry.{RawEntry}
-use Rattle.alb_check.specs.Limits.{AreCounts, AreTypes, ArePlaces, AreEntries, IsTableFit}
-use Rattle.alb_check.specs.Raw.{Raw, IsRaw}
-use Rattle.alb_check.specs.Shape.{is_element, is_generator_right, are_generators_right, is_entry_right, shape_fault}
+use Rattle.alb_check.specs.Raw.{AreCounts, AreTypes, ArePlaces, AreEntries, IsTableFit, Raw, IsRaw, is_element, is_generator_right, are_generators_right, is_entry_right, shape_fault}
 use Rattle.alb_check.proofs.TableLemmas.{IsShaped, shaped, element_from, le_sum}
 
 -- the counts of a type of small degree

@@ -6,7 +6,7 @@ use Rattle.std.proofs.lemmas.Bool.{cases_Bool}
 use Rattle.std.proofs.lemmas.List.{length-append, get_or_append_left}
 use Rattle.std.proofs.lemmas.List.Elements.{filter-append}
 use Rattle.alb_mono.specs.Listing.{Each}
-use Rattle.alb_mono.specs.Types.{rising}
+use Rattle.alb_mono.specs.Tree.{rising}
 use Rattle.alb_mono.proofs.ListingLemmas.{each-weaker, each-append, each-map, each-flat, each-both}
 use Rattle.alb_mono.proofs.TypeLemmas.{rising_more}
 use Rattle.alb_poly.proofs.Consequence.{flat-append}

@@ -7,12 +7,12 @@ use Rattle.std.proofs.lemmas.Bool.Decides.{nat_tests}
 use Rattle.std.proofs.lemmas.List.{get_or_default}
 use Rattle.std.specs.List.Sorted.{IsPartitionedBy, IsPartitionPoint}
 use Rattle.alb_mono.specs.Listing.{Each}
-use Rattle.alb_rows.specs.Row.{AreResidues}
+use Rattle.alb_rows.specs.Row.{AreCellResidues}
 use Rattle.alb_check.specs.declared.product.Product.{Product}
 use Rattle.alb_check.specs.Products.{row_at, is_pair_before}
 
 -- the row of a pair has residues
-pub row_residues : (p : ℕ) (xs : List Product) (i j : ℕ) → Each (λ x. AreResidues p x.row) xs → AreResidues p (row_at xs i j)
+pub row_residues : (p : ℕ) (xs : List Product) (i j : ℕ) → Each (λ x. AreCellResidues p x.row) xs → AreCellResidues p (row_at xs i j)
 row_residues p [] i j h = λ k d l. absurd (omega arith)
 row_residues p (x ∷ xs) i j h = elim (cases_Bool (x.left == i && x.right == j)) [
   | inl e ↦ rw e h.0

@@ -3,22 +3,19 @@
 use Rattle.std.proofs.Common.{◌≡◌, ℕ, zero, suc, ◌+◌, ◌*◌, ◌<◌, List, [], ◌∷◌, length, map, sum, sym, refl, ap, ◌∙◌, subst, arith, ◌⊎◌, inl, inr}
 use Rattle.std.specs.List.{flat_map}
 use Rattle.std.proofs.lemmas.List.{get_or-map, length-map}
-use Rattle.gf_field.specs.Primes.{IsPrime}
+use Rattle.gf_field.specs.Modular.{IsPrime}
 use Rattle.gf_field.proofs.Mod.{same, ◌⊙◌, times}
 use Rattle.gf_sums.specs.Sums.{Comb, scale, reindex, multiply}
 use Rattle.gf_sums.proofs.Totals.{total-same, weigh-equal, weigh-scale, weigh-multiply}
 use Rattle.gf_sums.proofs.Alike.{Alike, equal, itself, turned, joined, append-alike, scale-alike, multiply-alike, weigh-reindex}
 use Rattle.alb_mono.specs.Listing.{Each}
 use Rattle.alb_mono.specs.Tree.{Tree, leaf, node, AreBelow}
-use Rattle.alb_poly.specs.Algebra.{evaluate, evaluate_poly, unit}
+use Rattle.alb_poly.specs.Textbook.{evaluate, evaluate_poly, unit, free_product, IsTextConsequence}
 use Rattle.alb_poly.specs.Poly.{Poly}
 use Rattle.alb_mono.specs.declared.side.Side.{Side}
 use Rattle.alb_mono.specs.declared.side.Side.TheVariants.{Left, Right}
-use Rattle.alb_poly.specs.Context.{beside, within}
-use Rattle.alb_poly.specs.Instance.{Form, fill, instance, linearization, IsMultilinearForm, IsMultilinear}
-use Rattle.alb_poly.specs.Identity.{Identity, IsHomogeneous, AreHomogeneous, AreSameForms, IsSameForm, linearizations, polynomials}
-use Rattle.alb_poly.specs.Consequence.{Item, IsItem, AreItems, item_value, form_at, IsConsequence, AreMultilinear}
-use Rattle.alb_poly.specs.Textbook.{free_product, IsTextConsequence}
+use Rattle.alb_poly.specs.Consequence.{beside, within, Item, IsItem, AreItems, item_value, form_at, IsConsequence, AreMultilinear}
+use Rattle.alb_poly.specs.Instance.{Form, fill, instance, linearization, IsMultilinearForm, IsMultilinear, Identity, IsHomogeneous, AreHomogeneous, AreSameForms, IsSameForm, linearizations, polynomials}
 use Rattle.alb_poly.proofs.Consequence.{alike_poly, flat-append}
 use Rattle.alb_poly.proofs.Multilinear.{each-from, multilinear-below}
 use Rattle.alb_poly.proofs.Parts.{multilinear_at, weigh-zero}
@@ -29,8 +26,7 @@ use Rattle.alb_problem.proofs.Satisfied as general
 use Rattle.alb_problem.proofs.Satisfied.{Satisfies-linearization}
 use Rattle.alb_problem.proofs.Substitution.{evaluate_poly-alike, evaluate_poly-product, over-evaluate, Satisfies-text}
 use Rattle.alb_check.specs.Raw.{Raw, IsRaw}
-use Rattle.alb_check.specs.TableAlgebra.{product, value, IsElement, IsZeroAtTuples, Satisfies, generator_value}
-use Rattle.alb_check.specs.First.{AreZeroAtTuples}
+use Rattle.alb_check.specs.TableAlgebra.{element_product, value, IsElement, IsZeroAtTuples, TableSatisfies, generator_value, AreZeroAtTuples}
 use Rattle.alb_check.proofs.VectorLemmas.{vector_alike, alike_vector, alike-equal}
 use Rattle.alb_check.proofs.TableLemmas.{IsShaped, product_closed, nilpotent_from, generator_over}
 
@@ -100,17 +96,17 @@ module _ (p : ℕ) (target : List ℕ) (t : Raw) (is : IsRaw p (length target) t
   -- ---- identities
 
   zero_at : (l : Form) (f : Identity) → IsZeroAtTuples p t l → IsSameForm p l (linearization f.degrees f.terms) →
-      general.IsZeroAtElements (product t) (IsElement t) p (linearization f.degrees f.terms)
-  zero_at l f z h b o n = joined (evaluate_poly-alike (product t) p (vectors (map unit b)) _ _ (turned (alike_poly h.terms)))
+      general.IsZeroAtElements (element_product t) (IsElement t) p (linearization f.degrees f.terms)
+  zero_at l f z h b o n = joined (evaluate_poly-alike (element_product t) p (vectors (map unit b)) _ _ (turned (alike_poly h.terms)))
       (vector_alike (z b (record { long = n ∙ sym h.degree; elements = o })))
 
   satisfied : IsPrime p → sum t.top < p → (l : Form) (f : Identity) → IsZeroAtTuples p t l → IsHomogeneous f.degrees f.terms →
-      IsSameForm p l (linearization f.degrees f.terms) → Satisfies p t f.terms
-  satisfied prime above l f z hom h u o = alike_vector (Satisfies-linearization (product t) (IsElement t) p f.degrees f.terms prime
+      IsSameForm p l (linearization f.degrees f.terms) → TableSatisfies p t f.terms
+  satisfied prime above l f z hom h u o = alike_vector (Satisfies-linearization (element_product t) (IsElement t) p f.degrees f.terms prime
       (nilpotent_from p target t is right p above) hom (zero_at l f z h) u o)
 
   pub all_satisfied : IsPrime p → sum t.top < p → (ls : List Form) (fs : List Identity) → AreZeroAtTuples p t ls → AreHomogeneous fs →
-      AreSameForms p ls (linearizations fs) → Each (λ f. Satisfies p t f.terms) fs
+      AreSameForms p ls (linearizations fs) → Each (λ f. TableSatisfies p t f.terms) fs
   all_satisfied prime above [] [] z hom h = tt
   all_satisfied prime above [] (f ∷ fs) z hom h = elim h [ ]
   all_satisfied prime above (l ∷ ls) [] z hom h = tt
@@ -127,43 +123,43 @@ module _ (p : ℕ) (target : List ℕ) (t : Raw) (is : IsRaw p (length target) t
         each_below (g ∷ gs) zero z l = z.0
         each_below (g ∷ gs) (suc k) z l = each_below gs k z.1 (omega arith)
 
-    overs : (ms : List Tree) → Each (IsOver (IsElement t)) (map (evaluate (product t) v) ms)
+    overs : (ms : List Tree) → Each (IsOver (IsElement t)) (map (evaluate (element_product t) v) ms)
     overs [] = tt
-    overs (m ∷ ms) = (over-evaluate (product t) (IsElement t) (product_closed p target t is right) v over m, overs ms)
+    overs (m ∷ ms) = (over-evaluate (element_product t) (IsElement t) (product_closed p target t is right) v over m, overs ms)
 
-    instance_zero : (it : Item) → IsItem ls it → Alike p (evaluate_poly (product t) v (instance (form_at ls it.form) it.args)) []
+    instance_zero : (it : Item) → IsItem ls it → Alike p (evaluate_poly (element_product t) v (instance (form_at ls it.form) it.args)) []
     instance_zero it h =
         let f = form_at ls it.form in
         let m : IsMultilinearForm f = multilinear_at ls it.form multi in
-        joined (alike-equal _ _ (filled_terms (product t) v it.args f.terms
+        joined (alike-equal _ _ (filled_terms (element_product t) v it.args f.terms
         (each-from (λ x. IsMultilinear f.degree x.1) (λ x. AreBelow (length it.args) x.1) f.terms
         (λ x k. subst (λ n. AreBelow n x.1) (sym h.full) (multilinear-below f.degree x.1 k)) m)))
-        (form-closed (product t) (IsElement t) (λ g. Alike p g []) (closed-zero p) f m
+        (form-closed (element_product t) (IsElement t) (λ g. Alike p g []) (closed-zero p) f m
         (λ b o n. vector_alike (zero_form it.form h.named b (record { long = n; elements = o })))
-        (map (evaluate (product t) v) it.args) (overs it.args) (length-map it.args (evaluate (product t) v) ∙ h.full))
+        (map (evaluate (element_product t) v) it.args) (overs it.args) (length-map it.args (evaluate (element_product t) v) ∙ h.full))
 
-    item_zero : (it : Item) → IsItem ls it → Alike p (evaluate_poly (product t) v (item_value ls it)) []
-    item_zero it h = multiple_zero (product t) p v it.coef (reindex (within it.context) (instance (form_at ls it.form) it.args))
-        (within_zero (product t) p v it.context (instance (form_at ls it.form) it.args) (instance_zero it h))
+    item_zero : (it : Item) → IsItem ls it → Alike p (evaluate_poly (element_product t) v (item_value ls it)) []
+    item_zero it h = multiple_zero (element_product t) p v it.coef (reindex (within it.context) (instance (form_at ls it.form) it.args))
+        (within_zero (element_product t) p v it.context (instance (form_at ls it.form) it.args) (instance_zero it h))
 
-    items_zero : (its : List Item) → AreItems ls its → Alike p (evaluate_poly (product t) v (flat_map (item_value ls) its)) []
+    items_zero : (its : List Item) → AreItems ls its → Alike p (evaluate_poly (element_product t) v (flat_map (item_value ls) its)) []
     items_zero [] h = itself []
     items_zero (it ∷ its) h =
-        rw (flat-append (λ x. scale x.0 (evaluate (product t) v x.1)) (item_value ls it) (flat_map (item_value ls) its))
+        rw (flat-append (λ x. scale x.0 (evaluate (element_product t) v x.1)) (item_value ls it) (flat_map (item_value ls) its))
         (append-alike (item_zero it h.0) (items_zero its h.1))
 
-    consequence_zero : (g : Poly) → IsConsequence p ls g → Alike p (evaluate_poly (product t) v g) []
-    consequence_zero g c = joined (evaluate_poly-alike (product t) p v g _ (alike_poly c.same)) (items_zero c.items c.are)
+    consequence_zero : (g : Poly) → IsConsequence p ls g → Alike p (evaluate_poly (element_product t) v g) []
+    consequence_zero g c = joined (evaluate_poly-alike (element_product t) p v g _ (alike_poly c.same)) (items_zero c.items c.are)
 
   pub value_zero : (ls : List Form) (g : Poly) → AreMultilinear ls → AreZeroAtTuples p t ls → IsConsequence p ls g → Alike p (value t g) []
   value_zero ls g multi z c = consequence_zero ls multi z (generator_value t) (generator_over p target t is right) g c
 
   -- ---- consequences in the textbook's sense
 
-  everywhere : (fs : List Identity) → Each (λ f. Satisfies p t f.terms) fs → Each (general.Satisfies (product t) (IsElement t) p) (polynomials fs)
+  everywhere : (fs : List Identity) → Each (λ f. TableSatisfies p t f.terms) fs → Each (general.Satisfies (element_product t) (IsElement t) p) (polynomials fs)
   everywhere [] h = tt
   everywhere (f ∷ fs) h = (λ u o. vector_alike (h.0 u o), everywhere fs h.1)
 
-  pub text_zero : (fs : List Identity) (g : Poly) → Each (λ f. Satisfies p t f.terms) fs → IsTextConsequence p (polynomials fs) g → Alike p (value t g) []
-  text_zero fs g h c = Satisfies-text (product t) (IsElement t) (product_closed p target t is right) p (polynomials fs) g (everywhere fs h) c
+  pub text_zero : (fs : List Identity) (g : Poly) → Each (λ f. TableSatisfies p t f.terms) fs → IsTextConsequence p (polynomials fs) g → Alike p (value t g) []
+  text_zero fs g h c = Satisfies-text (element_product t) (IsElement t) (product_closed p target t is right) p (polynomials fs) g (everywhere fs h) c
       (generator_value t) (generator_over p target t is right)

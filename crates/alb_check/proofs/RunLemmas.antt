@@ -1,37 +1,35 @@
 -- The products of a table, gathered from runs of its entries.
-use Rattle.std.proofs.Common.{◌≡◌, ℕ, zero, suc, ◌+◌, ◌-◌, ◌<◌, ◌≤◌, ◌==◌, Bool, true, false, ◌&&◌, List, [], ◌∷◌, ◌++◌, length, take, drop, get_or, sym, refl, ap, ◌∙◌, subst, arith, inl, inr, ◌⊎◌}
+use Rattle.std.proofs.Common.{◌≡◌, ℕ, zero, suc, ◌+◌, ◌-◌, ◌<◌, ◌≤◌, ◌==◌, Bool, true, false, ◌&&◌, List, [], ◌∷◌, ◌++◌, length, take, drop, get_or, sym, refl, ap, ◌∙◌, subst, arith, inl, inr, ◌⊎◌, append-nil}
 use Rattle.std.specs.Prelude.{IsTrue}
 use Rattle.std.specs.List.{filter, slice_range}
 use Rattle.std.proofs.lemmas.Bool.{cases_Bool}
 use Rattle.std.proofs.lemmas.Bool.Decides.{nat_tests}
 use Rattle.std.proofs.lemmas.List.{map-append, take-append-drop, take_all, get_or_append_left, get_or-drop, get_or-take, get_or_default, length-take, length-append}
-use Rattle.std.proofs.Math.Seq.{get_or-append_seam}
-use Rattle.std.proofs.Common.{append-nil}
+use Rattle.std.proofs.Math.Seq.{get_or-append_seam, take-add}
 use Rattle.std.proofs.lemmas.List.Elements.{filter-append}
 use Rattle.std.proofs.lemmas.List.Quantifiers.{all_pairs_push}
-use Rattle.std.proofs.Math.Seq.{take-add}
 use Rattle.gf_sums.specs.Sums.{Comb, weigh, scale}
 use Rattle.gf_sums.proofs.Totals.{weigh-append, weigh-scale}
 use Rattle.gf_sums.proofs.Alike.{Alike, equal, itself, joined, append-alike, scale-alike}
 use Rattle.alb_poly.proofs.Multilinear.{each-append}
-use Rattle.alb_rows.specs.Row.{comb, AreResidues, AreSameVector}
+use Rattle.alb_rows.specs.Row.{comb, AreCellResidues, AreSameVector}
 use Rattle.alb_check.specs.declared.product.Product.{Product}
 use Rattle.alb_check.specs.declared.raw.RawEntry.{RawEntry}
-use Rattle.alb_check.specs.Shape.{is_before, are_ascending}
-use Rattle.alb_check.specs.TableAlgebra.{sum_of, entries_product}
-use Rattle.alb_check.specs.Products.{row_at, listed_product, is_pair_before, AreProducts, has_factors, IsRun}
+use Rattle.alb_check.specs.Raw.{is_before, are_ascending}
+use Rattle.alb_check.specs.TableAlgebra.{vector_of, entries_product}
+use Rattle.alb_check.specs.Products.{row_at, listed_product, is_pair_before, AreProducts, has_factors, IsFactorRun}
 use Rattle.alb_check.proofs.VectorLemmas.{vector_alike, alike_vector, alike-equal}
 use Rattle.alb_check.proofs.ProductLemmas.{is_pair, row_none, before_before, before_other}
 
 -- the sum of the two halves
-pub halves : (p : ℕ) (es : List RawEntry) (n : ℕ) (x y z : Comb ℕ) → AreSameVector p x (sum_of (take n es)) → AreSameVector p y (sum_of (drop n es)) →
-    AreSameVector p z (x ++ scale 1 y) → AreSameVector p z (sum_of es)
+pub halves : (p : ℕ) (es : List RawEntry) (n : ℕ) (x y z : Comb ℕ) → AreSameVector p x (vector_of (take n es)) → AreSameVector p y (vector_of (drop n es)) →
+    AreSameVector p z (x ++ scale 1 y) → AreSameVector p z (vector_of es)
 halves p es n x y z h k l =
     alike_vector (joined (vector_alike l) (joined (append-alike (vector_alike h) (scale-alike 1 (vector_alike k))) (equal _ _ (λ w.
-    weigh-append w (sum_of (take n es)) (scale 1 (sum_of (drop n es)))
-    ∙ ap (λ m. weigh w (sum_of (take n es)) + m) (weigh-scale w 1 (sum_of (drop n es)))
-    ∙ sym (ap (λ q. weigh w (sum_of q)) (sym (take-append-drop n es)) ∙ ap (weigh w) (map-append (λ e. (e.coef, e.to)) (take n es) (drop n es))
-    ∙ weigh-append w (sum_of (take n es)) (sum_of (drop n es)) ∙ omega arith)))))
+    weigh-append w (vector_of (take n es)) (scale 1 (vector_of (drop n es)))
+    ∙ ap (λ m. weigh w (vector_of (take n es)) + m) (weigh-scale w 1 (vector_of (drop n es)))
+    ∙ sym (ap (λ q. weigh w (vector_of q)) (sym (take-append-drop n es)) ∙ ap (weigh w) (map-append (λ e. (e.coef, e.to)) (take n es) (drop n es))
+    ∙ weigh-append w (vector_of (take n es)) (vector_of (drop n es)) ∙ omega arith)))))
 
 -- ---- entries in order
 
@@ -104,8 +102,8 @@ pub gathers_all : (p : ℕ) (es : List RawEntry) (start : ℕ) (xs : List Produc
 gathers_all p es start xs g l i j = subst (λ q. AreSameVector p (listed_product xs i j) (entries_product q i j)) (take_all start es l) (g.values i j)
 
 module _ (p : ℕ) (es : List RawEntry) (start end : ℕ) (xs : List Product) (g : Gathers p es start xs) (ascends : are_ascending es ≡ true)
-    (run : IsRun es start end) (x : Product) (e : RawEntry) (first : e ≡ get_or es start e) (left : x.left ≡ e.left) (right : x.right ≡ e.right)
-    (residues : AreResidues p x.row) (value : AreSameVector p (comb x.row) (sum_of (slice_range es start end))) where
+    (run : IsFactorRun es start end) (x : Product) (e : RawEntry) (first : e ≡ get_or es start e) (left : x.left ≡ e.left) (right : x.right ≡ e.right)
+    (residues : AreCellResidues p x.row) (value : AreSameVector p (comb x.row) (vector_of (slice_range es start end))) where
   -- `x` has the factors of the first entry
   factors_same : (d q : RawEntry) → has_factors (get_or es start d).left (get_or es start d).right q ≡ has_factors x.left x.right q
   factors_same d q =
@@ -157,7 +155,7 @@ module _ (p : ℕ) (es : List RawEntry) (start end : ℕ) (xs : List Product) (g
       let last : end ≡ start + (end - start) = omega (arith, run.above) in
       ap (λ n. entries_product (take n es) i j) last
       ∙ ap (λ q. entries_product q i j) (take-add start (end - start) es)
-      ∙ ap sum_of (filter-append (has_factors i j) (take start es) (slice_range es start end))
+      ∙ ap vector_of (filter-append (has_factors i j) (take start es) (slice_range es start end))
       ∙ map-append (λ d. (d.coef, d.to)) (filter (has_factors i j) (take start es)) (filter (has_factors i j) (slice_range es start end))
 
   values_here : AreSameVector p (listed_product (xs ++ x ∷ []) x.left x.right) (entries_product (take end es) x.left x.right)
@@ -167,8 +165,8 @@ module _ (p : ℕ) (es : List RawEntry) (start end : ℕ) (xs : List Product) (g
       let none : row_at xs x.left x.right ≡ [] = row_none xs x.left x.right other in
       let row : row_at (xs ++ x ∷ []) x.left x.right ≡ x.row = row_pushed xs x x.left x.right none other (same_pair x.left x.right) in
       let old : Alike p [] (entries_product (take start es) x.left x.right) = vector_alike (subst (λ r. AreSameVector p (comb r) (entries_product (take start es) x.left x.right)) none (g.values x.left x.right)) in
-      let all : entries_product (slice_range es start end) x.left x.right ≡ sum_of (slice_range es start end) =
-      ap sum_of (filter_all (has_factors x.left x.right) (slice_range es start end) factors) in
+      let all : entries_product (slice_range es start end) x.left x.right ≡ vector_of (slice_range es start end) =
+      ap vector_of (filter_all (has_factors x.left x.right) (slice_range es start end) factors) in
       subst (λ r. AreSameVector p (comb r) (entries_product (take end es) x.left x.right)) (sym row)
       (alike_vector (joined (joined (vector_alike value) (alike-equal _ _ (sym all)))
       (joined (append-alike old (itself (entries_product (slice_range es start end) x.left x.right))) (alike-equal _ _ (sym (entries_split x.left x.right))))))
@@ -179,7 +177,7 @@ module _ (p : ℕ) (es : List RawEntry) (start end : ℕ) (xs : List Product) (g
   values_other : (i j : ℕ) → is_pair i j x ≡ false → AreSameVector p (listed_product (xs ++ x ∷ []) i j) (entries_product (take end es) i j)
   values_other i j n =
       let none : entries_product (slice_range es start end) i j ≡ [] =
-      ap sum_of (filter_none (has_factors i j) (slice_range es start end) (λ k d l.
+      ap vector_of (filter_none (has_factors i j) (slice_range es start end) (λ k d l.
       other_pair x.left x.right (get_or (slice_range es start end) k d).left (get_or (slice_range es start end) k d).right i j (factors k d l) n)) in
       subst (λ r. AreSameVector p (comb r) (entries_product (take end es) i j)) (sym (row_push xs x i j n))
       (subst (λ q. AreSameVector p (listed_product xs i j) q)
@@ -208,7 +206,7 @@ module _ (p : ℕ) (es : List RawEntry) (start end : ℕ) (xs : List Product) (g
     within = run.within;
     products = record {
       ascending = all_pairs_push (λ y z. IsTrue (is_pair_before y.left y.right z.left z.right)) xs x g.products.ascending earlier;
-      residues = each-append (λ y. AreResidues p y.row) xs (x ∷ []) g.products.residues (residues, tt);
+      residues = each-append (λ y. AreCellResidues p y.row) xs (x ∷ []) g.products.residues (residues, tt);
     };
     values = values_more;
     behind = behind_more;

@@ -7,8 +7,7 @@ use Rattle.alb_mono.specs.Tree.{leaf, type_of}
 use Rattle.alb_poly.specs.Poly.{list_eq}
 use Rattle.alb_linear.proofs.IdentityLemmas.{list_eq-itself, list_eq-sound}
 use Rattle.alb_check.specs.declared.raw.RawEntry.{RawEntry}
-use Rattle.alb_check.specs.Raw.{Raw}
-use Rattle.alb_check.specs.Shape.{is_element, type_at, is_generator_right, are_ascending}
+use Rattle.alb_check.specs.Raw.{Raw, is_element, element_type, is_generator_right, are_ascending}
 
 -- whether two lists are one, by the test
 pub equal_lists : (xs ys : List ℕ) (b : Bool) → (IsTrue b ↔ (ys ≡ xs)) → b ≡ list_eq xs ys
@@ -18,7 +17,7 @@ equal_lists xs ys false h = elim (cases_Bool (list_eq xs ys)) [
   | inr e ↦ sym e
 ]
 
-pub own_type : (t : Raw) (g k : ℕ) (m : List ℕ) (b : Bool) → is_element t k ≡ true → m ≡ type_at t k
+pub own_type : (t : Raw) (g k : ℕ) (m : List ℕ) (b : Bool) → is_element t k ≡ true → m ≡ element_type t k
     → (IsTrue b ↔ (type_of (length t.top) (leaf g) ≡ m)) → b ≡ is_generator_right t g (Some k)
 own_type t g k m b e is h = rw (e, ← is) (equal_lists m (type_of (length t.top) (leaf g)) b h)
 

@@ -4,17 +4,14 @@ use Rattle.std.specs.Prelude.{Option, None, Some, unwrap_or}
 use Rattle.std.specs.List.{All, filter, flat_map}
 use Rattle.std.proofs.lemmas.Bool.Decides.{nat_tests}
 use Rattle.std.proofs.lemmas.List.{map-append, get_or-map, take_more}
-use Rattle.alb_mono.specs.Types.{rising, type_minus}
-use Rattle.alb_mono.specs.Tree.{type_le, type_plus}
+use Rattle.alb_mono.specs.Tree.{rising, type_minus, type_le, type_plus}
 use Rattle.alb_mono.specs.Listing.{Each}
 use Rattle.alb_mono.proofs.Both.{and_left, and_right}
 use Rattle.alb_mono.proofs.ListingLemmas.{each-at}
 use Rattle.alb_poly.proofs.Consequence.{flat-append}
 use Rattle.alb_linear.proofs.LinearLemmas.{each_from_all}
 use Rattle.alb_rows.specs.Row.{Cells}
-use Rattle.alb_table.specs.Entry.{entry_of}
-use Rattle.alb_table.specs.PartView.{elems, type_at}
-use Rattle.alb_table.specs.Table.{Table, IsTable}
+use Rattle.alb_table.specs.Table.{entry_of, elems, type_at, Table, IsTable}
 use Rattle.alb_table.proofs.TableLemmas.{entry_vector}
 use Rattle.alb_check.specs.declared.raw.RawEntry.{RawEntry}
 use Rattle.alb_check.specs.Raw.{IsRaw}

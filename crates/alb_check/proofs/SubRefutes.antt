@@ -7,13 +7,13 @@ use Rattle.alb_mono.specs.Listing.{Each}
 use Rattle.alb_mono.specs.Tree.{leaf, AreBelow}
 use Rattle.alb_mono.proofs.Leaves.{below_from_test}
 use Rattle.alb_mono.proofs.ListingLemmas.{each-at}
-use Rattle.alb_poly.specs.Algebra.{evaluate, evaluate_poly, unit}
+use Rattle.alb_poly.specs.Textbook.{evaluate, evaluate_poly, unit}
 use Rattle.alb_poly.specs.Poly.{Poly}
 use Rattle.alb_poly.specs.Instance.{Form, IsMultilinear}
 use Rattle.alb_poly.specs.Consequence.{form_at, IsConsequence, AreMultilinear}
 use Rattle.alb_poly.proofs.Multilinear.{each-from, each-flat, multilinear-below}
 use Rattle.alb_poly.proofs.Parts.{multilinear_at}
-use Rattle.alb_table.specs.Right.{AreHigh, IsRight, IsTypeTo, IsWithin, IsBasisTo, poly_value}
+use Rattle.alb_table.specs.Right.{AreHigh, IsRight, IsTypeTo, IsWithinDegree, IsBasisTo, poly_value}
 use Rattle.alb_table.specs.RightTable.{basis_monos, mono_entry}
 use Rattle.alb_table.specs.Table.{Table, IsTable}
 use Rattle.alb_table.proofs.Bases as monomials
@@ -24,10 +24,9 @@ use Rattle.alb_table.proofs.RightTables.{number-basis}
 use Rattle.alb_table.proofs.Values.{each-scale, value-consequence}
 use Rattle.alb_table.proofs.Within.{degree-positive}
 use Rattle.alb_check.specs.SubTable.{sub_table, IsFirstType}
-use Rattle.alb_check.specs.TableAlgebra.{product, generator_value, value, units, value_at, IsElement, IsTuple, IsZeroAtTuples}
-use Rattle.alb_check.specs.Answers.{IsModel}
-use Rattle.alb_check.specs.Verdict.{IsVerdict}
-use Rattle.alb_check.specs.Verdict.Verdict.{Refuted}
+use Rattle.alb_check.specs.TableAlgebra.{element_product, generator_value, value, units, form_value, IsElement, IsTuple, IsZeroAtTuples}
+use Rattle.alb_check.specs.Verdict.{IsModel, IsTableVerdict}
+use Rattle.alb_check.specs.Verdict.TableVerdict.{Refuted}
 use Rattle.alb_check.proofs.CheckLemmas.{each_from_places}
 use Rattle.alb_check.proofs.Cut.{cut, cut_unit, cut_value, cut-satisfies, passes_type, types-cut}
 use Rattle.alb_check.proofs.FirstPart.{sub-nonzero, sub-found}
@@ -38,14 +37,14 @@ use Rattle.alb_check.proofs.VectorLemmas.{vector_alike}
 
 module _ (fs : List Form) (t : Table) (top : List ℕ) (tab : IsTable t) (right : IsRight t.p fs t.target t.degree (basis_monos t.parts) (mono_entry t.parts))
     (ty : IsTypeTo t.target t.degree top) (some : 0 < sum top) where
-  closed : (i j : ℕ) → IsElement (sub_table t top) i → IsElement (sub_table t top) j → Each (λ s. IsElement (sub_table t top) s.1) (product (sub_table t top) i j)
+  closed : (i j : ℕ) → IsElement (sub_table t top) i → IsElement (sub_table t top) j → Each (λ s. IsElement (sub_table t top) s.1) (element_product (sub_table t top) i j)
   closed i j h k = product_closed t.p t.target (sub_table t top) (sub-raw t top tab ty.counts) (sub-shaped t top tab ty some) i j h k
 
   -- ---- the value of a polynomial
 
   pub sub-value : (g : Poly) → Each (λ s. AreBelow (length t.target) s.1) g →
       reindex (mono_with t top) (value (sub_table t top) g) ≡ cut_value (passes_type top) (mono_entry t.parts) g
-  sub-value g a = poly-reindex (IsElement (sub_table t top)) (mono_with t top) (product (sub_table t top)) (cut (passes_type top) (mono_entry t.parts)) closed
+  sub-value g a = poly-reindex (IsElement (sub_table t top)) (mono_with t top) (element_product (sub_table t top)) (cut (passes_type top) (mono_entry t.parts)) closed
       (sub-respects fs t top tab right ty) (generator_value (sub_table t top)) (cut_unit (passes_type top)) (length t.target)
       (λ k l. generator_over t.p t.target (sub_table t top) (sub-raw t top tab ty.counts) (sub-shaped t top tab ty some) k)
       (sub-generators fs t top tab right ty) g a
@@ -71,15 +70,15 @@ module _ (fs : List Form) (t : Table) (top : List ℕ) (tab : IsTable t) (right 
     below : Each (λ s. AreBelow f.degree s.1) f.terms
     below = each-from _ _ f.terms (λ s m. multilinear-below f.degree s.1 m) multi
 
-    pub tuple-value : reindex (mono_with t top) (value_at (sub_table t top) f ks)
+    pub tuple-value : reindex (mono_with t top) (form_value (sub_table t top) f ks)
         ≡ evaluate_poly (cut (passes_type top) (mono_entry t.parts)) (λ k. unit (get_or (map (mono_with t top) ks) k (leaf k))) f.terms
-    tuple-value = poly-reindex (IsElement (sub_table t top)) (mono_with t top) (product (sub_table t top)) (cut (passes_type top) (mono_entry t.parts)) closed
+    tuple-value = poly-reindex (IsElement (sub_table t top)) (mono_with t top) (element_product (sub_table t top)) (cut (passes_type top) (mono_entry t.parts)) closed
         (sub-respects fs t top tab right ty) (units ks) (λ k. unit (get_or (map (mono_with t top) ks) k (leaf k))) f.degree unit-elements unit-monos f.terms below
 
-    pub tuple-elements : Each (λ s. IsElement (sub_table t top) s.1) (value_at (sub_table t top) f ks)
+    pub tuple-elements : Each (λ s. IsElement (sub_table t top) s.1) (form_value (sub_table t top) f ks)
     tuple-elements = each-flat (λ s. AreBelow f.degree s.1) (λ s. IsElement (sub_table t top) s.1) _ f.terms
-        (λ s b. each-scale (IsElement (sub_table t top)) s.0 (evaluate (product (sub_table t top)) (units ks) s.1)
-        (evaluate-each (IsElement (sub_table t top)) (mono_with t top) (product (sub_table t top)) (cut (passes_type top) (mono_entry t.parts)) closed
+        (λ s b. each-scale (IsElement (sub_table t top)) s.0 (evaluate (element_product (sub_table t top)) (units ks) s.1)
+        (evaluate-each (IsElement (sub_table t top)) (mono_with t top) (element_product (sub_table t top)) (cut (passes_type top) (mono_entry t.parts)) closed
         (sub-respects fs t top tab right ty) (units ks) (λ k. unit (get_or (map (mono_with t top) ks) k (leaf k))) f.degree unit-elements unit-monos s.1 b)) below
 
     -- the monomials are basis monomials that pass
@@ -94,16 +93,16 @@ module _ (fs : List Form) (t : Table) (top : List ℕ) (tab : IsTable t) (right 
     positive : 0 < t.p
     positive = omega (arith, above_one t tab)
 
-    table : monomials.IsTable t.p fs (IsWithin t.target t.degree) (IsBasisTo t.p fs t.target t.degree) (mono_entry t.parts)
+    table : monomials.IsTable t.p fs (IsWithinDegree t.target t.degree) (IsBasisTo t.p fs t.target t.degree) (mono_entry t.parts)
     table = right-table t.p positive fs multi high t.target t.degree (basis_monos t.parts) (mono_entry t.parts) right
 
     -- every form is zero at all tuples
     zero-at : (i : ℕ) → i < length fs → IsZeroAtTuples t.p (sub_table t top) (form_at fs i)
     zero-at i h ks tuple =
         let m = multilinear_at fs i multi in
-        sub-zero fs t top tab right ty (value_at (sub_table t top) (form_at fs i) ks) (tuple-elements (form_at fs i) m ks tuple)
+        sub-zero fs t top tab right ty (form_value (sub_table t top) (form_at fs i) ks) (tuple-elements (form_at fs i) m ks tuple)
         (subst (λ x. Alike t.p x []) (sym (tuple-value (form_at fs i) m ks tuple))
-        (cut-satisfies t.p positive fs multi (IsWithin t.target t.degree) (mono_entry t.parts) table (passes_type top) (types-cut t.target t.degree top ty) i
+        (cut-satisfies t.p positive fs multi (IsWithinDegree t.target t.degree) (mono_entry t.parts) table (passes_type top) (types-cut t.target t.degree top ty) i
         (map (mono_with t top) ks) h (length-map ks (mono_with t top) ∙ tuple.long)
         (λ k l. mono-basis (form_at fs i) m ks tuple k (omega (arith, l, length-map ks (mono_with t top), tuple.long)))))
 
@@ -118,9 +117,9 @@ first-some : (p : ℕ) (top : List ℕ) (f : Poly) → IsFirstType p top f → 0
 first-some p top f h = omega (arith, of_type-degree top h.monomial h.type, degree-positive h.monomial)
 
 pub sub-refutes : (fs : List Form) (t : Table) (g : Poly) (top : List ℕ) → AreMultilinear fs → AreHigh fs → IsTable t →
-    IsRight t.p fs t.target t.degree (basis_monos t.parts) (mono_entry t.parts) → Each (λ s. IsWithin t.target t.degree s.1) g →
+    IsRight t.p fs t.target t.degree (basis_monos t.parts) (mono_entry t.parts) → Each (λ s. IsWithinDegree t.target t.degree s.1) g →
     IsTypeTo t.target t.degree top → IsFirstType t.p top (poly_value (mono_entry t.parts) g) →
-    IsVerdict t.p t.target fs (sub_table t top) g Refuted
+    IsTableVerdict t.p t.target fs (sub_table t top) g Refuted
 sub-refutes fs t g top multi high tab right inside ty first =
     let some : 0 < sum top = first-some t.p top (poly_value (mono_entry t.parts) g) first in
     let positive : 0 < t.p = omega (arith, above_one t tab) in (
@@ -134,12 +133,12 @@ sub-refutes fs t g top multi high tab right inside ty first =
 
 -- a polynomial within the table is a consequence, or has such a type
 pub each-decided : (fs : List Form) (t : Table) (g : Poly) → AreMultilinear fs → AreHigh fs → IsTable t →
-    IsRight t.p fs t.target t.degree (basis_monos t.parts) (mono_entry t.parts) → Each (λ s. IsWithin t.target t.degree s.1) g →
-    IsConsequence t.p fs g ⊎ ((top : List ℕ) × IsTypeTo t.target t.degree top × IsVerdict t.p t.target fs (sub_table t top) g Refuted)
+    IsRight t.p fs t.target t.degree (basis_monos t.parts) (mono_entry t.parts) → Each (λ s. IsWithinDegree t.target t.degree s.1) g →
+    IsConsequence t.p fs g ⊎ ((top : List ℕ) × IsTypeTo t.target t.degree top × IsTableVerdict t.p t.target fs (sub_table t top) g Refuted)
 each-decided fs t g multi high tab right inside =
     let positive : 0 < t.p = omega (arith, above_one t tab) in
     let table = right-table t.p positive fs multi high t.target t.degree (basis_monos t.parts) (mono_entry t.parts) right in
     elim (sub-found t.p positive fs t.target t.degree (mono_entry t.parts) table g inside) [
-      | inl z ↦ inl (value-consequence t.p positive fs multi (IsWithin t.target t.degree) (mono_entry t.parts) table g inside z)
+      | inl z ↦ inl (value-consequence t.p positive fs multi (IsWithinDegree t.target t.degree) (mono_entry t.parts) table g inside z)
       | inr r ↦ inr (r.0, r.1, sub-refutes fs t g r.0 multi high tab right inside r.1 r.2)
     ]

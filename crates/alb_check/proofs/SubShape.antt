@@ -7,17 +7,13 @@ use Rattle.std.proofs.lemmas.Bool.{cases_Bool}
 use Rattle.std.proofs.lemmas.Bool.Decides.{nat_tests}
 use Rattle.std.proofs.lemmas.List.{get_or-map, get_or-take, get_or_append_left, get_or-append_right, length-map}
 use Rattle.alb_mono.specs.Listing.{Each}
-use Rattle.alb_mono.specs.Tree.{leaf, type_le, type_of, type_plus}
-use Rattle.alb_mono.specs.Types.{rising}
+use Rattle.alb_mono.specs.Tree.{leaf, type_le, type_of, type_plus, rising}
 use Rattle.alb_mono.proofs.ListingLemmas.{each-at, each-weaker, each-map, each-flat}
 use Rattle.alb_poly.specs.Poly.{list_eq}
 use Rattle.alb_linear.proofs.LinearLemmas.{all_from_each}
 use Rattle.alb_rows.specs.Row.{Cells}
-use Rattle.alb_table.specs.Entry.{products, entry_of}
-use Rattle.alb_table.specs.Grid.{same_pair, find_entry}
-use Rattle.alb_table.specs.PartView.{PartView, elems, type_at, first_of, dim_of, entries_at}
+use Rattle.alb_table.specs.Table.{products, entry_of, same_pair, find_entry, PartView, elems, type_at, first_of, dim_of, entries_at, Table, IsTable, IsPartOf, IsElementOf, IsRowAmong}
 use Rattle.alb_table.specs.Right.{IsTypeTo}
-use Rattle.alb_table.specs.Table.{Table, IsTable, IsPartOf, IsElementOf, IsRowAmong}
 use Rattle.alb_table.specs.declared.part.Elem.{Elem}
 use Rattle.alb_table.specs.declared.part.Elem.TheVariants.{Gen, Prod}
 use Rattle.alb_poly.proofs.Types.{list_eq-itself, list_eq-sound}
@@ -25,8 +21,7 @@ use Rattle.alb_table.proofs.PartLemmas.{elems_step}
 use Rattle.alb_table.proofs.RangeLemmas.{type_first, type_later, type_of_range}
 use Rattle.alb_table.proofs.TableLemmas.{type_shape, long_enough}
 use Rattle.alb_check.specs.declared.raw.RawEntry.{RawEntry}
-use Rattle.alb_check.specs.Raw.{Raw, IsRaw}
-use Rattle.alb_check.specs.Shape.{is_element, type_at as raw_type, is_top_right, are_elements_right, is_generator_right, are_generators_right, is_entry_right, is_before, are_ascending, shape_fault}
+use Rattle.alb_check.specs.Raw.{Raw, IsRaw, is_element, type_at as raw_type, is_top_right, are_elements_right, is_generator_right, are_generators_right, is_entry_right, is_before, are_ascending, shape_fault}
 use Rattle.alb_check.specs.SubTable.{is_kept, kept_elements, number_of, generator_number, row_entries, product_entries, sub_table}
 use Rattle.alb_check.proofs.Passing.{Rises, rises-flat, rises-map, rises-from, rises-where, passing, passing-each, passing-rises, places-few, place-less, place-get}
 use Rattle.alb_check.proofs.TableLemmas.{IsShaped}

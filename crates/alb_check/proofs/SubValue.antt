@@ -10,20 +10,17 @@ use Rattle.gf_field.proofs.Mod.{same}
 use Rattle.gf_sums.specs.Sums.{Comb, reindex}
 use Rattle.gf_sums.proofs.Alike.{Alike}
 use Rattle.alb_mono.specs.Listing.{Each}
-use Rattle.alb_mono.specs.Tree.{Tree, leaf, node, type_of, type_le, type_plus, are_below, same_tree}
-use Rattle.alb_mono.specs.Types.{rising}
+use Rattle.alb_mono.specs.Tree.{Tree, leaf, node, type_of, type_le, type_plus, are_below, same_tree, rising}
 use Rattle.alb_mono.proofs.Leaves.{plus-node, plus_replicate}
 use Rattle.alb_mono.proofs.ListingLemmas.{each-weaker, each-flat}
-use Rattle.alb_poly.specs.Algebra.{unit}
+use Rattle.alb_poly.specs.Textbook.{unit}
 use Rattle.alb_poly.specs.Instance.{Form}
 use Rattle.alb_poly.proofs.Consequence.{tree_tells, poly_alike}
 use Rattle.alb_problem.specs.Satisfied.{AreSameVectors}
 use Rattle.alb_rows.specs.Row.{Cells, comb}
-use Rattle.alb_table.specs.Entry.{entry_of, table_product}
-use Rattle.alb_table.specs.PartView.{elems, type_at, monos, mono_at}
+use Rattle.alb_table.specs.Table.{entry_of, table_product, elems, type_at, monos, mono_at, Table, IsTable}
 use Rattle.alb_table.specs.Right.{IsRight, IsTypeTo}
 use Rattle.alb_table.specs.RightTable.{basis_monos, mono_entry}
-use Rattle.alb_table.specs.Table.{Table, IsTable}
 use Rattle.alb_table.proofs.Coefficients.{each-coefficient}
 use Rattle.alb_table.proofs.Numbers.{entry-respects, coefficient-reindex}
 use Rattle.alb_table.proofs.Image.{filter-all}
@@ -31,7 +28,7 @@ use Rattle.alb_table.proofs.RightTables.{length-monos, number-type, numbers-diff
 use Rattle.alb_table.proofs.TableLemmas.{type_shape}
 use Rattle.alb_check.specs.declared.raw.RawEntry.{RawEntry}
 use Rattle.alb_check.specs.SubTable.{is_kept, kept_elements, number_of, generator_number, row_entries, product_entries, sub_table}
-use Rattle.alb_check.specs.TableAlgebra.{sum_of, product, generator_value, at_element, IsElement}
+use Rattle.alb_check.specs.TableAlgebra.{vector_of, element_product, generator_value, at_element, IsElement}
 use Rattle.alb_check.proofs.Cut.{cut, cut_unit, passes_type}
 use Rattle.alb_check.proofs.Passing.{filter-flat, filter-none, flat-one, place-number, rising-get}
 use Rattle.alb_check.proofs.SubShape.{IsKept, IsEntryOf, length-rising, kept-each, number-less, number-get, cells-kept, product-each, generator-below}
@@ -123,21 +120,21 @@ module _ (t : Table) (top : List ℕ) (tab : IsTable t) where
         each-weaker (IsEntryOf t top x y) _ (product_entries t top x y) (λ e h. other_left x y e (record { below = l; passes = k }) h n) (product-each t top tab x y)))))
         ∙ of-left
 
-    pub product-entries : product (sub_table t top) (number_of t top b) (number_of t top c) ≡ sum_of (product_entries t top b c)
+    pub product-entries : element_product (sub_table t top) (number_of t top b) (number_of t top c) ≡ vector_of (product_entries t top b c)
     unfolding of_pair
-    product-entries = ap sum_of of-all
+    product-entries = ap vector_of of-all
 
   row-monos : (b c : ℕ) (e : Cells) → Each (λ cell. IsKept t top cell.0) e →
-      reindex (mono_with t top) (sum_of (row_entries (number_of t top) b c e)) ≡ reindex (mono_at t.parts) (comb e)
+      reindex (mono_with t top) (vector_of (row_entries (number_of t top) b c e)) ≡ reindex (mono_at t.parts) (comb e)
   row-monos b c [] h = refl
   row-monos b c (cell ∷ e) h = rw (mono-number cell.0 h.0, row-monos b c e h.1) refl
 
   product-monos : (b c : ℕ) → type_le (type_plus (type_at t.parts b) (type_at t.parts c)) top ≡ true →
-      reindex (mono_with t top) (sum_of (row_entries (number_of t top) b c (unwrap_or (entry_of t.parts b c) []))) ≡ reindex (mono_at t.parts) (table_product t.parts b c)
+      reindex (mono_with t top) (vector_of (row_entries (number_of t top) b c (unwrap_or (entry_of t.parts b c) []))) ≡ reindex (mono_at t.parts) (table_product t.parts b c)
   product-monos b c h = by_entry (entry_of t.parts b c) refl
     where
       by_entry : (o : Option Cells) → entry_of t.parts b c ≡ o →
-          reindex (mono_with t top) (sum_of (row_entries (number_of t top) b c (unwrap_or o []))) ≡ reindex (mono_at t.parts) (comb (unwrap_or o []))
+          reindex (mono_with t top) (vector_of (row_entries (number_of t top) b c (unwrap_or o []))) ≡ reindex (mono_at t.parts) (comb (unwrap_or o []))
       by_entry None k = refl
       by_entry (Some e) k = row-monos b c e (cells-kept t top tab b c e h k)
 
@@ -193,7 +190,7 @@ module _ (fs : List Form) (t : Table) (top : List ℕ) (tab : IsTable t) (right 
       (omega (arith, length-monos t.parts)) (omega (arith, length-monos t.parts))
 
   pair-respects : (b c : ℕ) → IsKept t top b → IsKept t top c →
-      reindex (mono_with t top) (product (sub_table t top) (number_of t top b) (number_of t top c)) ≡ cut (passes_type top) (mono_entry t.parts) (mono_at t.parts b) (mono_at t.parts c)
+      reindex (mono_with t top) (element_product (sub_table t top) (number_of t top b) (number_of t top c)) ≡ cut (passes_type top) (mono_entry t.parts) (mono_at t.parts b) (mono_at t.parts c)
   pair-respects b c h k =
       ap (reindex (mono_with t top)) (product-entries t top tab b c h k)
       ∙ elim (cases_Bool (type_le (type_plus (type_at t.parts b) (type_at t.parts c)) top)) [
@@ -203,12 +200,12 @@ module _ (fs : List Form) (t : Table) (top : List ℕ) (tab : IsTable t) (right 
 
   -- products
   pub sub-respects : (i j : ℕ) → IsElement (sub_table t top) i → IsElement (sub_table t top) j →
-      reindex (mono_with t top) (product (sub_table t top) i j) ≡ cut (passes_type top) (mono_entry t.parts) (mono_with t top i) (mono_with t top j)
+      reindex (mono_with t top) (element_product (sub_table t top) i j) ≡ cut (passes_type top) (mono_entry t.parts) (mono_with t top i) (mono_with t top j)
   sub-respects i j h k =
       let x = has-number t top tab i h in
       let y = has-number t top tab j k in
-      ap (λ n. reindex (mono_with t top) (product (sub_table t top) n j)) (sym x.number)
-      ∙ ap (λ n. reindex (mono_with t top) (product (sub_table t top) (number_of t top (basis_of t top i)) n)) (sym y.number)
+      ap (λ n. reindex (mono_with t top) (element_product (sub_table t top) n j)) (sym x.number)
+      ∙ ap (λ n. reindex (mono_with t top) (element_product (sub_table t top) (number_of t top (basis_of t top i)) n)) (sym y.number)
       ∙ pair-respects (basis_of t top i) (basis_of t top j) x.kept y.kept
 
   -- generators

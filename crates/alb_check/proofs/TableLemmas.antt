@@ -17,10 +17,9 @@ use Rattle.alb_problem.proofs.Satisfied as general
 use Rattle.alb_problem.proofs.Satisfied.{IsGraded, IsNilpotent-graded, zero-high}
 use Rattle.alb_problem.proofs.Substitution.{IsClosedUnder}
 use Rattle.alb_check.specs.declared.raw.RawEntry.{RawEntry}
-use Rattle.alb_check.specs.Raw.{Raw, IsRaw}
-use Rattle.alb_check.specs.Shape.{is_element, type_at, is_top_right, are_elements_right, is_generator_right, are_generators_right, is_entry_right, are_entries_right, are_ascending, are_nonzero, shape_fault}
-use Rattle.alb_check.specs.TableAlgebra.{sum_of, product, generator_value, at_element, IsElement, IsTuple, IsZeroAt, IsVector, IsNilpotent}
-use Rattle.alb_check.specs.Walk.{count_at, Leaves, fits}
+use Rattle.alb_check.specs.Raw.{Raw, IsRaw, is_element, element_type, is_top_right, are_elements_right, is_generator_right, are_generators_right, is_entry_right, are_entries_right, are_ascending, are_nonzero, shape_fault}
+use Rattle.alb_check.specs.TableAlgebra.{vector_of, element_product, generator_value, at_element, IsElement, IsTuple, IsZeroAtTuple, IsVector, IsNilpotent}
+use Rattle.alb_check.specs.Walk.{count_at, Leaves, fits_top}
 use Rattle.alb_check.proofs.VectorLemmas.{alike_vector}
 
 -- ---- the six rules
@@ -106,25 +105,25 @@ element_from t k h = record { low = low k (length t.elements) h; high = high k (
     high k n h = grind (arith, nat_tests)
 
 module _ (p : ℕ) (target : List ℕ) (t : Raw) (is : IsRaw p (length target) t) (right : IsShaped target p t) where
-  pub type_long : (k : ℕ) → IsElement t k → length (type_at t k) ≡ length t.top
+  pub type_long : (k : ℕ) → IsElement t k → length (element_type t k) ≡ length t.top
   type_long k h = is.elements (k - 1) [] (omega (arith, h.low, h.high)) ∙ sym is.top
 
-  element_right : (k : ℕ) → IsElement t k → (nat_lt 0 (sum (type_at t k)) && type_le (type_at t k) t.top) ≡ true
+  element_right : (k : ℕ) → IsElement t k → (nat_lt 0 (sum (element_type t k)) && type_le (element_type t k) t.top) ≡ true
   element_right k h = all_at (λ e. nat_lt 0 (sum e) && type_le e t.top) t.elements (k - 1) [] right.elements (omega (arith, h.low, h.high))
 
-  pub type_positive : (k : ℕ) → IsElement t k → 1 ≤ sum (type_at t k)
-  type_positive k h = positive (sum (type_at t k)) (and_left _ _ (element_right k h))
+  pub type_positive : (k : ℕ) → IsElement t k → 1 ≤ sum (element_type t k)
+  type_positive k h = positive (sum (element_type t k)) (and_left _ _ (element_right k h))
     where
       positive : (n : ℕ) → nat_lt 0 n ≡ true → 1 ≤ n
       positive n h = grind (arith, nat_tests)
 
-  pub type_within : (k : ℕ) → IsElement t k → type_le (type_at t k) t.top ≡ true
-  type_within k h = and_right (nat_lt 0 (sum (type_at t k))) _ (element_right k h)
+  pub type_within : (k : ℕ) → IsElement t k → type_le (element_type t k) t.top ≡ true
+  type_within k h = and_right (nat_lt 0 (sum (element_type t k))) _ (element_right k h)
 
   -- the elements of a product have the sum of the types
   pub record IsSum (i j k : ℕ) : Type 0 where
     pub element : IsElement t k
-    pub type : type_at t k ≡ type_plus (type_at t i) (type_at t j)
+    pub type : element_type t k ≡ type_plus (element_type t i) (element_type t j)
 
   entry_sum : (i j : ℕ) (e : RawEntry) → is_entry_right t e ≡ true → (e.left == i && e.right == j) ≡ true → IsSum i j e.to
   entry_sum i j e h q =
@@ -134,7 +133,7 @@ module _ (p : ℕ) (target : List ℕ) (t : Raw) (is : IsRaw p (length target) t
       let r : e.right ≡ j = two e.left e.right i j q in
       record {
         element = element_from t e.to (and_left _ _ b);
-        type = list_eq-sound _ _ (and_right (is_element t e.to) _ b) ∙ ap (λ n. type_plus (type_at t n) (type_at t e.right)) l ∙ ap (λ n. type_plus (type_at t i) (type_at t n)) r;
+        type = list_eq-sound _ _ (and_right (is_element t e.to) _ b) ∙ ap (λ n. type_plus (element_type t n) (element_type t e.right)) l ∙ ap (λ n. type_plus (element_type t i) (element_type t n)) r;
       }
     where
       one : (a b i j : ℕ) → (a == i && b == j) ≡ true → a ≡ i
@@ -144,31 +143,31 @@ module _ (p : ℕ) (target : List ℕ) (t : Raw) (is : IsRaw p (length target) t
       two a b i j h = grind (arith, nat_tests)
 
   entries_sum : (i j : ℕ) (es : List RawEntry) → list_all (is_entry_right t) es ≡ true →
-      Each (λ c. IsSum i j c.1) (sum_of (filter (λ e. e.left == i && e.right == j) es))
+      Each (λ c. IsSum i j c.1) (vector_of (filter (λ e. e.left == i && e.right == j) es))
   entries_sum i j [] h = tt
   entries_sum i j (e ∷ es) h = elim (cases_Bool (e.left == i && e.right == j)) [
     | inl q ↦ rw q (entry_sum i j e (and_left _ _ h) q, entries_sum i j es (and_right (is_entry_right t e) _ h))
     | inr q ↦ rw q (entries_sum i j es (and_right (is_entry_right t e) _ h))
   ]
 
-  pub product_sum : (i j : ℕ) → Each (λ c. IsSum i j c.1) (product t i j)
+  pub product_sum : (i j : ℕ) → Each (λ c. IsSum i j c.1) (element_product t i j)
   product_sum i j = entries_sum i j t.entries right.entries
 
-  pub product_closed : IsClosedUnder (product t) (IsElement t)
-  product_closed i j a b = each-from (λ c. IsSum i j c.1) (λ c. IsElement t c.1) (product t i j) (λ c s. s.element) (product_sum i j)
+  pub product_closed : IsClosedUnder (element_product t) (IsElement t)
+  product_closed i j a b = each-from (λ c. IsSum i j c.1) (λ c. IsElement t c.1) (element_product t i j) (λ c s. s.element) (product_sum i j)
 
   -- ---- products of too many factors
 
-  by_degree : IsGraded (product t) (IsElement t) (λ k. sum (type_at t k)) (sum t.top)
+  by_degree : IsGraded (element_product t) (IsElement t) (λ k. sum (element_type t k)) (sum t.top)
   by_degree = record {
     positive = type_positive;
-    bounded = λ k h. le_sum (type_at t k) t.top (type_long k h) (type_within k h);
-    products = λ i j a b. each-from (λ c. IsSum i j c.1) (λ c. IsElement t c.1 × (sum (type_at t i) + sum (type_at t j) ≤ sum (type_at t c.1))) (product t i j)
-        (λ c s. (s.element, omega (arith, ap sum s.type, plus_sum (type_at t i) (type_at t j)))) (product_sum i j);
+    bounded = λ k h. le_sum (element_type t k) t.top (type_long k h) (type_within k h);
+    products = λ i j a b. each-from (λ c. IsSum i j c.1) (λ c. IsElement t c.1 × (sum (element_type t i) + sum (element_type t j) ≤ sum (element_type t c.1))) (element_product t i j)
+        (λ c s. (s.element, omega (arith, ap sum s.type, plus_sum (element_type t i) (element_type t j)))) (product_sum i j);
   }
 
-  pub nilpotent_from : (n : ℕ) → sum t.top < n → general.IsNilpotent (product t) (IsElement t) p n
-  nilpotent_from n h = IsNilpotent-graded (product t) (IsElement t) (λ k. sum (type_at t k)) (sum t.top) by_degree p n h
+  pub nilpotent_from : (n : ℕ) → sum t.top < n → general.IsNilpotent (element_product t) (IsElement t) p n
+  nilpotent_from n h = IsNilpotent-graded (element_product t) (IsElement t) (λ k. sum (element_type t k)) (sum t.top) by_degree p n h
 
   pub nilpotent : IsNilpotent p t
   nilpotent m h u o = alike_vector (nilpotent_from (suc (sum t.top)) (omega arith) m (omega arith) u o)
@@ -179,41 +178,41 @@ module _ (p : ℕ) (target : List ℕ) (t : Raw) (is : IsRaw p (length target) t
     weight : ℕ
     weight = suc (sum t.top)
 
-    by_count : IsGraded (product t) (IsElement t) (λ k. suc (sum t.top) * count_at t g k + sum (type_at t k)) (suc (sum t.top) * get_or t.top g 0 + sum t.top)
+    by_count : IsGraded (element_product t) (IsElement t) (λ k. suc (sum t.top) * count_at t g k + sum (element_type t k)) (suc (sum t.top) * get_or t.top g 0 + sum t.top)
     by_count = record {
       positive = λ k h. omega (arith, type_positive k h);
-      bounded = λ k h. omega (arith, by_degree.bounded k h, mul-le-mul_left (suc (sum t.top)) (le_at (type_at t k) t.top g (type_long k h) (type_within k h)));
+      bounded = λ k h. omega (arith, by_degree.bounded k h, mul-le-mul_left (suc (sum t.top)) (le_at (element_type t k) t.top g (type_long k h) (type_within k h)));
       products = λ i j a b. each-from (λ c. IsSum i j c.1)
-          (λ c. IsElement t c.1 × ((suc (sum t.top) * count_at t g i + sum (type_at t i)) + (suc (sum t.top) * count_at t g j + sum (type_at t j)) ≤ suc (sum t.top) * count_at t g c.1 + sum (type_at t c.1)))
-          (product t i j)
+          (λ c. IsElement t c.1 × ((suc (sum t.top) * count_at t g i + sum (element_type t i)) + (suc (sum t.top) * count_at t g j + sum (element_type t j)) ≤ suc (sum t.top) * count_at t g c.1 + sum (element_type t c.1)))
+          (element_product t i j)
           (λ c s. (
             s.element,
             omega (
               arith,
               ap sum s.type,
-              plus_sum (type_at t i) (type_at t j),
-              ap (λ e. suc (sum t.top) * get_or e g 0) s.type ∙ ap (λ n. suc (sum t.top) * n) (plus_at (type_at t i) (type_at t j) g) ∙ mul-add (suc (sum t.top)) (count_at t g i) (count_at t g j),
+              plus_sum (element_type t i) (element_type t j),
+              ap (λ e. suc (sum t.top) * get_or e g 0) s.type ∙ ap (λ n. suc (sum t.top) * n) (plus_at (element_type t i) (element_type t j) g) ∙ mul-add (suc (sum t.top)) (count_at t g i) (count_at t g j),
             ),
           ))
           (product_sum i j);
     }
 
-    pub heavy_at : (f : Form) → IsMultilinearForm f → (ks : List ℕ) → IsTuple t f ks → get_or t.top g 0 < total (count_at t g) ks → IsZeroAt p t f ks
-    heavy_at f multi ks tuple h = alike_vector (zero-high (product t) (IsElement t) (λ k. suc (sum t.top) * count_at t g k + sum (type_at t k))
+    pub heavy_at : (f : Form) → IsMultilinearForm f → (ks : List ℕ) → IsTuple t f ks → get_or t.top g 0 < total (count_at t g) ks → IsZeroAtTuple p t f ks
+    heavy_at f multi ks tuple h = alike_vector (zero-high (element_product t) (IsElement t) (λ k. suc (sum t.top) * count_at t g k + sum (element_type t k))
         (suc (sum t.top) * get_or t.top g 0 + sum t.top) by_count p f multi ks tuple.elements tuple.long
         (omega (
           arith,
-          total-plus (λ k. suc (sum t.top) * count_at t g k) (λ k. sum (type_at t k)) ks,
+          total-plus (λ k. suc (sum t.top) * count_at t g k) (λ k. sum (element_type t k)) ks,
           total-times (suc (sum t.top)) (count_at t g) ks,
           mul-le-mul_left (suc (sum t.top)) h,
           mul-add (suc (sum t.top)) (get_or t.top g 0) 1,
         )))
 
   -- a tuple where an element does not fit into what those before it leave of the top
-  pub heavy : (f : Form) → IsMultilinearForm f → (ks js rest : List ℕ) (k : ℕ) → Leaves t ks rest → fits t rest k ≡ false → IsTuple t f (ks ++ k ∷ js) →
-      IsZeroAt p t f (ks ++ k ∷ js)
+  pub heavy : (f : Form) → IsMultilinearForm f → (ks js rest : List ℕ) (k : ℕ) → Leaves t ks rest → fits_top t rest k ≡ false → IsTuple t f (ks ++ k ∷ js) →
+      IsZeroAtTuple p t f (ks ++ k ∷ js)
   heavy f multi ks js rest k leaves n tuple =
-      let a = above_at (type_at t k) rest (type_long k (element_in ks js k tuple.elements) ∙ sym leaves.long) n in
+      let a = above_at (element_type t k) rest (type_long k (element_in ks js k tuple.elements) ∙ sym leaves.long) n in
       heavy_at a.0 f multi (ks ++ k ∷ js) tuple
       (omega (arith, a.1, leaves.sums a.0, total-append (count_at t a.0) ks (k ∷ js)))
     where

@@ -1,14 +1,13 @@
 -- Sums of multiples of products, term by term.
 use Rattle.std.proofs.Common.{◌≡◌, ℕ, ◌+◌, ◌*◌, ◌%◌, ◌<◌, List, [], ◌∷◌, ◌++◌, length, take, get_or, sym, ap, ◌∙◌, subst, arith, append-nil}
-use Rattle.std.specs.List.{flat_map}
-use Rattle.std.specs.List.{All}
+use Rattle.std.specs.List.{flat_map, All}
 use Rattle.std.proofs.lemmas.List.{take_more, map-append, get_or-map, length-map}
 use Rattle.gf_field.proofs.Mod.{same, of_mod, ◌⊙◌}
 use Rattle.gf_sums.specs.Sums.{Comb, weigh, scale, multiply}
 use Rattle.gf_sums.proofs.Totals.{weigh-append}
 use Rattle.gf_sums.proofs.Alike.{Alike, equal, itself, joined, append-alike, scale-alike, scales-alike, multiply-alike}
 use Rattle.alb_mono.specs.Tree.{Tree}
-use Rattle.alb_poly.specs.Algebra.{evaluate, evaluate_poly}
+use Rattle.alb_poly.specs.Textbook.{evaluate, evaluate_poly}
 use Rattle.alb_poly.specs.Terms.{term, terms}
 use Rattle.alb_poly.specs.declared.term.Term.{Term}
 use Rattle.alb_poly.proofs.Consequence.{flat-append}

@@ -1,11 +1,11 @@
 -- Equal vectors over numbers.
 use Rattle.std.proofs.Common.{◌≡◌, ℕ, nat_eq, refl}
 use Rattle.std.proofs.lemmas.Bool.{eqb-true, eq-eqb}
-use Rattle.gf_sums.specs.Sums.{Comb, Tells}
+use Rattle.gf_sums.specs.Sums.{Comb, TellsApart}
 use Rattle.gf_sums.proofs.Alike.{Alike, alike-same, same-alike, equal}
 use Rattle.alb_rows.specs.Row.{AreSameVector}
 
-pub numbers_tell : Tells (λ i j. nat_eq i j)
+pub numbers_tell : TellsApart (λ i j. nat_eq i j)
 numbers_tell = record { sound = eqb-true; whole = λ i. eq-eqb i i refl }
 
 module _ {p : ℕ} {f g : Comb ℕ} where

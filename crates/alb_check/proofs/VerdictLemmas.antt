@@ -10,8 +10,7 @@ use Rattle.std.proofs.Math.Decide.{ℕ_discrete}
 use Prim.{yes, no}
 use Rattle.std.proofs.lemmas.Bool.{cases_Bool, cases_order, eqb-true}
 use Rattle.std.proofs.lemmas.Cmp.{ranked, by_ranked, nat_list_cmp_total}
-use Rattle.gf_field.specs.Primes.{IsPrime}
-use Rattle.gf_field.specs.Modular.{IsSameMod}
+use Rattle.gf_field.specs.Modular.{IsPrime, IsSameMod}
 use Rattle.gf_field.proofs.Mod.{same}
 use Rattle.gf_sums.specs.Sums.{Comb, coefficient}
 use Rattle.alb_mono.specs.Listing.{Each}
@@ -23,13 +22,10 @@ use Rattle.alb_problem.specs.Satisfied.{AreSameVectors}
 use Rattle.alb_check.specs.declared.check.Counter.{Counter}
 use Rattle.alb_check.specs.declared.error.TableError.{TableError}
 use Rattle.alb_check.specs.declared.error.TableError.TheVariants as errors
-use Rattle.alb_check.specs.Raw.{Raw, IsRaw}
-use Rattle.alb_check.specs.Shape.{shape_fault}
-use Rattle.alb_check.specs.TableAlgebra.{value, value_at, IsElement, IsZeroAt, IsZeroAtTuples}
-use Rattle.alb_check.specs.First.{IsFirstTuple, AreZeroAtTuples, FirstFailure}
-use Rattle.alb_check.specs.Answers.{Answers, IsAccepted, IsModel, RefutesText}
-use Rattle.alb_check.specs.Verdict.{Verdict, IsVerdict}
-use Rattle.alb_check.specs.Verdict.Verdict.{Refuted, BadShape, Fails, ValueZero}
+use Rattle.alb_check.specs.Raw.{Raw, IsRaw, shape_fault}
+use Rattle.alb_check.specs.TableAlgebra.{value, form_value, IsElement, IsZeroAtTuple, IsZeroAtTuples, IsFirstTuple, AreZeroAtTuples, FirstFailure}
+use Rattle.alb_check.specs.Verdict.{TableAnswers, IsTableAccepted, IsModel, RefutesText, TableVerdict, IsTableVerdict}
+use Rattle.alb_check.specs.Verdict.TableVerdict.{Refuted, BadShape, Fails, ValueZero}
 use Rattle.alb_check.proofs.VectorLemmas.{alike_vector}
 use Rattle.alb_check.proofs.TableLemmas.{IsShaped, shaped, le_sum}
 use Rattle.alb_check.proofs.RefuteLemmas.{all_satisfied, value_zero, text_zero}
@@ -141,7 +137,7 @@ module _ (t : Raw) where
 
 module _ (p : ℕ) (t : Raw) where
   zero_or_first : (f : Form) → IsZeroAtTuples p t f ⊎ ((ks : List ℕ) × IsFirstTuple p t f ks)
-  zero_or_first f = elim (first_of_degree t f.degree (IsZeroAt p t f) (λ ks. zero_or_not p (value_at t f ks))) [
+  zero_or_first f = elim (first_of_degree t f.degree (IsZeroAtTuple p t f) (λ ks. zero_or_not p (form_value t f ks))) [
     | inl z ↦ inl (λ ks h. z ks h.long h.elements)
     | inr r ↦ inr (
       r.0,
@@ -179,16 +175,16 @@ module _ (p : ℕ) (t : Raw) where
 
 -- ---- each table has one verdict
 
-pub verdict-some : (p : ℕ) (target : List ℕ) (fs : List Form) (t : Raw) (g : Poly) → (v : Verdict) × IsVerdict p target fs t g v
+pub verdict-some : (p : ℕ) (target : List ℕ) (fs : List Form) (t : Raw) (g : Poly) → (v : TableVerdict) × IsTableVerdict p target fs t g v
 verdict-some p target fs t g = by_fault (shape_fault target p t) refl
   where
-    by_value : shape_fault target p t ≡ None → AreZeroAtTuples p t fs → (v : Verdict) × IsVerdict p target fs t g v
+    by_value : shape_fault target p t ≡ None → AreZeroAtTuples p t fs → (v : TableVerdict) × IsTableVerdict p target fs t g v
     by_value e z = elim (zero_or_not p (value t g)) [
       | inl y ↦ (ValueZero, record { model = record { shape = e; zero = z }; zero = y })
       | inr n ↦ (Refuted, (record { shape = e; zero = z }, n))
     ]
 
-    by_fault : (o : Option ℕ) → shape_fault target p t ≡ o → (v : Verdict) × IsVerdict p target fs t g v
+    by_fault : (o : Option ℕ) → shape_fault target p t ≡ o → (v : TableVerdict) × IsTableVerdict p target fs t g v
     by_fault (Some r) e = (BadShape r, e)
     by_fault None e = elim (zero_or_failure p t fs) [
       | inl z ↦ by_value e z
@@ -226,7 +222,7 @@ module _ (p : ℕ) (target : List ℕ) (fs : List Form) (t : Raw) (g : Poly) whe
   model_clash : (i : ℕ) (ks : List ℕ) → IsModel p target fs t → FirstFailure p t fs i ks → ⊥
   model_clash i ks m r = no_failure p t fs fs r.place ks m.zero r.named r.tuple
 
-  pub verdict-one : (v w : Verdict) → IsVerdict p target fs t g v → IsVerdict p target fs t g w → v ≡ w
+  pub verdict-one : (v w : TableVerdict) → IsTableVerdict p target fs t g v → IsTableVerdict p target fs t g w → v ≡ w
   verdict-one Refuted Refuted a b = refl
   verdict-one Refuted (BadShape r) a b = absurd (shape_clash r a.0.shape b)
   verdict-one Refuted (Fails i ks) a b = absurd (model_clash i ks a.0 b.1)
@@ -254,21 +250,21 @@ module _ (p : ℕ) (target : List ℕ) (fs : List Form) (t : Raw) (g : Poly) whe
       middle a b c h = grind arith
 
   -- over a prime above the degree of the target, of no identities that the forms stand for
-  pub refuted-text : IsPrime p → sum target < p → IsRaw p (length target) t → IsVerdict p target fs t g Refuted → RefutesText p fs g
+  pub refuted-text : IsPrime p → sum target < p → IsRaw p (length target) t → IsTableVerdict p target fs t g Refuted → RefutesText p fs g
   refuted-text prime large is v ids homogeneous alike c =
       let right : IsShaped target p t = shaped target p t v.0.shape in
       v.1 (alike_vector (text_zero p target t is right ids g
       (all_satisfied p target t is right prime (omega (arith, large, top_within is right)) fs ids v.0.zero homogeneous alike) c))
 
   -- of the forms themselves, over any `p`
-  pub refuted-consequence : AreMultilinear fs → IsRaw p (length target) t → IsVerdict p target fs t g Refuted → IsConsequence p fs g → ⊥
+  pub refuted-consequence : AreMultilinear fs → IsRaw p (length target) t → IsTableVerdict p target fs t g Refuted → IsConsequence p fs g → ⊥
   refuted-consequence multilinear is v c =
       v.1 (alike_vector (value_zero p target t is (shaped target p t v.0.shape) fs g multilinear v.0.zero c))
 
 -- ---- what is refuted is accepted
 
 pub refuted-accepted : (p : ℕ) (target : List ℕ) (fs : List Form) (t : Raw) (g : Poly) (r : Result Counter TableError) →
-    IsVerdict p target fs t g Refuted → Answers p target fs t g r → IsAccepted r
+    IsTableVerdict p target fs t g Refuted → TableAnswers p target fs t g r → IsTableAccepted r
 refuted-accepted p target fs t g (Ok c) v a = tt
 refuted-accepted p target fs t g (Err (errors.BadShape r)) v a = absurd (shape_clash p target fs t g r v.0.shape a)
 refuted-accepted p target fs t g (Err (errors.Fails i ks)) v a = absurd (model_clash p target fs t g i ks.items v.0 a.1)

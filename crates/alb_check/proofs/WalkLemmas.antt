@@ -17,20 +17,17 @@ use Rattle.gf_sums.proofs.Totals.{total-append}
 use Rattle.gf_sums.proofs.Alike.{joined, turned}
 use Rattle.alb_mono.proofs.Both.{and_left, and_right}
 use Rattle.alb_mono.specs.Listing.{Each, IsIn}
-use Rattle.alb_mono.specs.Tree.{type_le, are_below}
-use Rattle.alb_mono.specs.Types.{type_minus, rising}
-use Rattle.alb_poly.specs.Algebra.{evaluate_poly}
+use Rattle.alb_mono.specs.Tree.{type_le, are_below, type_minus, rising}
+use Rattle.alb_poly.specs.Textbook.{evaluate_poly}
 use Rattle.alb_poly.specs.Poly.{Poly}
 use Rattle.alb_poly.specs.Instance.{Form, IsMultilinear, IsMultilinearForm}
 use Rattle.alb_poly.proofs.Multilinear.{each-append, each-from, multilinear-below}
 use Rattle.alb_linear.proofs.LinearLemmas.{test_from_below, all_from_each}
 use Rattle.alb_problem.proofs.FormValue.{poly-equal}
-use Rattle.alb_rows.specs.Row.{Cells, AreResidues, AreSameVector}
-use Rattle.alb_check.specs.Raw.{Raw, IsRaw}
-use Rattle.alb_check.specs.Shape.{type_at}
-use Rattle.alb_check.specs.TableAlgebra.{product, units, value_at, IsElement, IsTuple, IsZeroAt, IsZeroAtTuples}
-use Rattle.alb_check.specs.First.{IsFirstTuple}
-use Rattle.alb_check.specs.Walk.{count_at, Leaves, fits, AreCandidates, IsZeroFrom, IsFirstFrom}
+use Rattle.alb_rows.specs.Row.{Cells, AreCellResidues, AreSameVector}
+use Rattle.alb_check.specs.Raw.{Raw, IsRaw, element_type}
+use Rattle.alb_check.specs.TableAlgebra.{element_product, units, form_value, IsElement, IsTuple, IsZeroAtTuple, IsZeroAtTuples, IsFirstTuple}
+use Rattle.alb_check.specs.Walk.{count_at, Leaves, fits_top, AreCandidates, IsZeroFrom, IsFirstFrom}
 use Rattle.alb_check.specs.Products.{listed_product, GivesProducts, vectors}
 use Rattle.alb_check.specs.declared.product.Product.{Product}
 use Rattle.alb_check.proofs.VectorLemmas.{vector_alike, alike_vector, alike-equal}
@@ -51,10 +48,10 @@ one_residue : (p k i : ℕ) (d : ℕ × ℕ) → 1 < p → i < length (unit_row 
 one_residue p k zero d h l = h
 one_residue p k (suc i) d h l = absurd (omega arith)
 
-pub unit_residues : (p : ℕ) (ks : List ℕ) → 1 < p → All (λ r. AreResidues p r) (map unit_row ks)
-unit_residues p ks h = all_from_each (λ r. AreResidues p r) (map unit_row ks) (each ks)
+pub unit_residues : (p : ℕ) (ks : List ℕ) → 1 < p → All (λ r. AreCellResidues p r) (map unit_row ks)
+unit_residues p ks h = all_from_each (λ r. AreCellResidues p r) (map unit_row ks) (each ks)
   where
-    each : (js : List ℕ) → Each (λ r. AreResidues p r) (map unit_row js)
+    each : (js : List ℕ) → Each (λ r. AreCellResidues p r) (map unit_row js)
     each [] = tt
     each (k ∷ js) = (λ i d l. one_residue p k i d h l, each js)
 
@@ -65,13 +62,13 @@ known_terms f n multi e = all_from_each (λ t. IsTrue (are_below n t.1)) f.terms
 
 -- the value by the rows is that in the table
 pub rows_value : (p : ℕ) (t : Raw) (products : List Product) (u v : ℕ → Comb ℕ) (f : Poly) (x : Comb ℕ) → GivesProducts p t products →
-    ((i : ℕ) → u i ≡ v i) → AreSameVector p x (evaluate_poly (listed_product products) u f) → AreSameVector p x (evaluate_poly (product t) v f)
+    ((i : ℕ) → u i ≡ v i) → AreSameVector p x (evaluate_poly (listed_product products) u f) → AreSameVector p x (evaluate_poly (element_product t) v f)
 rows_value p t products u v f x g e h = alike_vector (joined (vector_alike h)
-    (joined (evaluate_poly-products p (listed_product products) (product t) (λ i j. vector_alike (g i j)) u f)
-    (alike-equal _ _ (poly-equal (product t) u v f e))))
+    (joined (evaluate_poly-products p (listed_product products) (element_product t) (λ i j. vector_alike (g i j)) u f)
+    (alike-equal _ _ (poly-equal (element_product t) u v f e))))
 
 pub tuple_value : (p : ℕ) (t : Raw) (products : List Product) (f : Form) (ks : List ℕ) (rows : List Cells) (x : Comb ℕ) → GivesProducts p t products →
-    rows ≡ map unit_row ks → AreSameVector p x (evaluate_poly (listed_product products) (vectors rows) f.terms) → AreSameVector p x (value_at t f ks)
+    rows ≡ map unit_row ks → AreSameVector p x (evaluate_poly (listed_product products) (vectors rows) f.terms) → AreSameVector p x (form_value t f ks)
 tuple_value p t products f ks rows x g e h =
     rows_value p t products (vectors rows) (units ks) f.terms x g (λ i. ap (λ r. vectors r i) e ∙ unit_rows ks i) h
 
@@ -177,36 +174,36 @@ le_minus (x ∷ xs) (y ∷ ys) (z ∷ zs) h =
     lower x y z h = grind (arith, nat_tests)
 
 module _ (p : ℕ) (target : List ℕ) (t : Raw) (is : IsRaw p (length target) t) (right : IsShaped target p t) where
-  pub leaves_more : (ks rest : List ℕ) (k : ℕ) → Leaves t ks rest → IsElement t k → fits t rest k ≡ true → Leaves t (ks ++ k ∷ []) (type_minus rest (type_at t k))
+  pub leaves_more : (ks rest : List ℕ) (k : ℕ) → Leaves t ks rest → IsElement t k → fits_top t rest k ≡ true → Leaves t (ks ++ k ∷ []) (type_minus rest (element_type t k))
   leaves_more ks rest k l h f = record {
-    long = minus_long rest (type_at t k) ∙ l.long;
+    long = minus_long rest (element_type t k) ∙ l.long;
     sums = λ g.
-        let a = le_at (type_at t k) rest g (type_long p target t is right k h ∙ sym l.long) f in
-        omega (arith, a, l.sums g, minus_at rest (type_at t k) g, total-append (count_at t g) ks (k ∷ []));
+        let a = le_at (element_type t k) rest g (type_long p target t is right k h ∙ sym l.long) f in
+        omega (arith, a, l.sums g, minus_at rest (element_type t k) g, total-append (count_at t g) ks (k ∷ []));
   }
 
-  pub candidates_more : (rest cs : List ℕ) (k : ℕ) → AreCandidates t rest cs → AreCandidates t (type_minus rest (type_at t k)) (filter (fits t rest) cs)
+  pub candidates_more : (rest cs : List ℕ) (k : ℕ) → AreCandidates t rest cs → AreCandidates t (type_minus rest (element_type t k)) (filter (fits_top t rest) cs)
   candidates_more rest cs k c = record {
-    ascending = AllPairs-filter (λ a b. a < b) (fits t rest) cs c.ascending;
-    elements = each_filter (IsElement t) (fits t rest) cs c.elements;
+    ascending = AllPairs-filter (λ a b. a < b) (fits_top t rest) cs c.ascending;
+    elements = each_filter (IsElement t) (fits_top t rest) cs c.elements;
     all = λ j h f.
-        let g : fits t rest j ≡ true = le_minus (type_at t j) rest (type_at t k) f in
-        in_filter (fits t rest) j cs (c.all j h g) g;
+        let g : fits_top t rest j ≡ true = le_minus (element_type t j) rest (element_type t k) f in
+        in_filter (fits_top t rest) j cs (c.all j h g) g;
   }
 
   -- an element among the candidates that fits
   pub record IsChosen (rest : List ℕ) (k : ℕ) : Type 0 where
     pub element : IsElement t k
-    pub fitting : fits t rest k ≡ true
-    pub long : length (type_at t k) ≡ length rest
+    pub fitting : fits_top t rest k ≡ true
+    pub long : length (element_type t k) ≡ length rest
 
-  pub chosen_at : (ks rest cs xs : List ℕ) (i : ℕ) → Leaves t ks rest → AreCandidates t rest cs → xs ≡ filter (fits t rest) cs → i < length xs → IsChosen rest (get_or xs i 0)
+  pub chosen_at : (ks rest cs xs : List ℕ) (i : ℕ) → Leaves t ks rest → AreCandidates t rest cs → xs ≡ filter (fits_top t rest) cs → i < length xs → IsChosen rest (get_or xs i 0)
   chosen_at ks rest cs xs i leaves c e l =
-      let m : i < length (filter (fits t rest) cs) = omega (arith, ap length e) in
-      let h = each_get (IsElement t) (filter (fits t rest) cs) i 0 (each_filter (IsElement t) (fits t rest) cs c.elements) m in
+      let m : i < length (filter (fits_top t rest) cs) = omega (arith, ap length e) in
+      let h = each_get (IsElement t) (filter (fits_top t rest) cs) i 0 (each_filter (IsElement t) (fits_top t rest) cs c.elements) m in
       subst (λ ys. IsChosen rest (get_or ys i 0)) (sym e) record {
         element = h;
-        fitting = filter_passes (fits t rest) cs i 0 m;
+        fitting = filter_passes (fits_top t rest) cs i 0 m;
         long = type_long p target t is right _ h ∙ sym leaves.long;
       }
 
@@ -214,12 +211,12 @@ module _ (p : ℕ) (target : List ℕ) (t : Raw) (is : IsRaw p (length target) t
   next_elements ks old new k h e a b = subst (Each (IsElement t)) (sym (b ∙ ap (λ xs. xs ++ k ∷ []) a)) (each-append (IsElement t) ks (k ∷ []) h (e, tt))
 
   pub next_leaves : (ks old new rest rest' : List ℕ) (k : ℕ) → Leaves t ks rest → IsChosen rest k → old ≡ ks → new ≡ old ++ k ∷ [] →
-      rest' ≡ type_minus rest (type_at t k) → Leaves t new rest'
+      rest' ≡ type_minus rest (element_type t k) → Leaves t new rest'
   next_leaves ks old new rest rest' k l h a b e =
       subst (λ xs. Leaves t xs rest') (sym (b ∙ ap (λ xs. xs ++ k ∷ []) a)) (subst (Leaves t (ks ++ k ∷ [])) (sym e) (leaves_more ks rest k l h.element h.fitting))
 
-  pub next_candidates : (rest rest' cs xs : List ℕ) (k : ℕ) → AreCandidates t rest cs → xs ≡ filter (fits t rest) cs → rest' ≡ type_minus rest (type_at t k) → AreCandidates t rest' xs
-  next_candidates rest rest' cs xs k c e f = subst (λ r. AreCandidates t r xs) (sym f) (subst (AreCandidates t (type_minus rest (type_at t k))) (sym e) (candidates_more rest cs k c))
+  pub next_candidates : (rest rest' cs xs : List ℕ) (k : ℕ) → AreCandidates t rest cs → xs ≡ filter (fits_top t rest) cs → rest' ≡ type_minus rest (element_type t k) → AreCandidates t rest' xs
+  next_candidates rest rest' cs xs k c e f = subst (λ r. AreCandidates t r xs) (sym f) (subst (AreCandidates t (type_minus rest (element_type t k))) (sym e) (candidates_more rest cs k c))
 
   -- ---- tuples that begin alike
 
@@ -231,9 +228,9 @@ module _ (p : ℕ) (target : List ℕ) (t : Raw) (is : IsRaw p (length target) t
     again j js h = subst (IsTuple t f) (sym (append_assoc ks (j ∷ []) js)) h
 
     -- zero where the tuple goes on with an element that fits and where all tuples are zero, or with one that does not fit
-    zero_or_heavy : (j : ℕ) (js : List ℕ) → IsTuple t f (ks ++ j ∷ js) → (fits t rest j ≡ true → IsZeroFrom p t f (ks ++ j ∷ [])) → IsZeroAt p t f (ks ++ j ∷ js)
-    zero_or_heavy j js h z = elim (cases_Bool (fits t rest j)) [
-      | inl e ↦ subst (IsZeroAt p t f) (append_assoc ks (j ∷ []) js) (z e js (again j js h))
+    zero_or_heavy : (j : ℕ) (js : List ℕ) → IsTuple t f (ks ++ j ∷ js) → (fits_top t rest j ≡ true → IsZeroFrom p t f (ks ++ j ∷ [])) → IsZeroAtTuple p t f (ks ++ j ∷ js)
+    zero_or_heavy j js h z = elim (cases_Bool (fits_top t rest j)) [
+      | inl e ↦ subst (IsZeroAtTuple p t f) (append_assoc ks (j ∷ []) js) (z e js (again j js h))
       | inr e ↦ heavy p target t is right f multi ks js rest j leaves e h
     ]
 
@@ -241,44 +238,44 @@ module _ (p : ℕ) (target : List ℕ) (t : Raw) (is : IsRaw p (length target) t
     element_in [] js j h = h.0
     element_in (a ∷ hs) js j h = element_in hs js j h.1
 
-    pub zero_all : ((i : ℕ) → i < length (filter (fits t rest) cs) → IsZeroFrom p t f (ks ++ get_or (filter (fits t rest) cs) i 0 ∷ [])) → IsZeroFrom p t f ks
+    pub zero_all : ((i : ℕ) → i < length (filter (fits_top t rest) cs) → IsZeroFrom p t f (ks ++ get_or (filter (fits_top t rest) cs) i 0 ∷ [])) → IsZeroFrom p t f ks
     zero_all z [] h = absurd (longer h)
     zero_all z (j ∷ js) h = zero_or_heavy j js h (λ e.
-        let r = index_of j (filter (fits t rest) cs) (in_filter (fits t rest) j cs (candidates.all j (element_in ks js j h.elements) e) e) in
+        let r = index_of j (filter (fits_top t rest) cs) (in_filter (fits_top t rest) j cs (candidates.all j (element_in ks js j h.elements) e) e) in
         subst (λ k. IsZeroFrom p t f (ks ++ k ∷ [])) r.2 (z r.0 r.1))
 
-    pub first_found : (i : ℕ) (tuple : List ℕ) → i < length (filter (fits t rest) cs) →
-        ((k : ℕ) → k < i → IsZeroFrom p t f (ks ++ get_or (filter (fits t rest) cs) k 0 ∷ [])) →
-        IsFirstFrom p t f (ks ++ get_or (filter (fits t rest) cs) i 0 ∷ []) tuple → IsFirstFrom p t f ks tuple
+    pub first_found : (i : ℕ) (tuple : List ℕ) → i < length (filter (fits_top t rest) cs) →
+        ((k : ℕ) → k < i → IsZeroFrom p t f (ks ++ get_or (filter (fits_top t rest) cs) k 0 ∷ [])) →
+        IsFirstFrom p t f (ks ++ get_or (filter (fits_top t rest) cs) i 0 ∷ []) tuple → IsFirstFrom p t f ks tuple
     first_found i tuple l z r = record {
-      rest = get_or (filter (fits t rest) cs) i 0 ∷ r.rest;
-      is = r.is ∙ append_assoc ks (get_or (filter (fits t rest) cs) i 0 ∷ []) r.rest;
+      rest = get_or (filter (fits_top t rest) cs) i 0 ∷ r.rest;
+      is = r.is ∙ append_assoc ks (get_or (filter (fits_top t rest) cs) i 0 ∷ []) r.rest;
       is_tuple = r.is_tuple;
       fails = r.fails;
       first = earlier;
     }
       where
-        smaller : (j : ℕ) (js : List ℕ) → IsTuple t f (ks ++ j ∷ js) → j < get_or (filter (fits t rest) cs) i 0 → IsZeroAt p t f (ks ++ j ∷ js)
+        smaller : (j : ℕ) (js : List ℕ) → IsTuple t f (ks ++ j ∷ js) → j < get_or (filter (fits_top t rest) cs) i 0 → IsZeroAtTuple p t f (ks ++ j ∷ js)
         smaller j js h less = zero_or_heavy j js h (λ e.
-            let q = index_of j (filter (fits t rest) cs) (in_filter (fits t rest) j cs (candidates.all j (element_in ks js j h.elements) e) e) in
+            let q = index_of j (filter (fits_top t rest) cs) (in_filter (fits_top t rest) j cs (candidates.all j (element_in ks js j h.elements) e) e) in
             subst (λ k. IsZeroFrom p t f (ks ++ k ∷ [])) q.2 (z q.0 (elim (place q.0 i) [
               | inl a ↦ a
               | inr a ↦ absurd (elim a [
-                | inl s ↦ omega (arith, q.2, ap (λ n. get_or (filter (fits t rest) cs) n 0) s)
-                | inr b ↦ omega (arith, q.2, AllPairs-filter (λ a b. a < b) (fits t rest) cs candidates.ascending i q.0 0 b q.1)
+                | inl s ↦ omega (arith, q.2, ap (λ n. get_or (filter (fits_top t rest) cs) n 0) s)
+                | inr b ↦ omega (arith, q.2, AllPairs-filter (λ a b. a < b) (fits_top t rest) cs candidates.ascending i q.0 0 b q.1)
               ])
             ])))
           where
             place : (m n : ℕ) → (m < n) ⊎ ((m ≡ n) ⊎ (n < m))
             place m n = grind arith
 
-        earlier : (js : List ℕ) → IsTuple t f (ks ++ js) → slice_cmp nat_cmp js (get_or (filter (fits t rest) cs) i 0 ∷ r.rest) ≡ Less → IsZeroAt p t f (ks ++ js)
+        earlier : (js : List ℕ) → IsTuple t f (ks ++ js) → slice_cmp nat_cmp js (get_or (filter (fits_top t rest) cs) i 0 ∷ r.rest) ≡ Less → IsZeroAtTuple p t f (ks ++ js)
         earlier [] h less = absurd (longer h)
         earlier (j ∷ js) h less =
-            let k : ℕ = get_or (filter (fits t rest) cs) i 0 in
+            let k : ℕ = get_or (filter (fits_top t rest) cs) i 0 in
             by_ranked (j < k) (j ≡ k) (k < j) (nat_cmp j k) (ranked j k _ refl)
             (λ e a. smaller j js h a)
-            (λ e s. subst (λ x. IsZeroAt p t f (ks ++ x ∷ js)) (sym s) (subst (IsZeroAt p t f) (append_assoc ks (k ∷ []) js)
+            (λ e s. subst (λ x. IsZeroAtTuple p t f (ks ++ x ∷ js)) (sym s) (subst (IsZeroAtTuple p t f) (append_assoc ks (k ∷ []) js)
             (r.first js (again k js (subst (λ x. IsTuple t f (ks ++ x ∷ js)) s h)) (rw e at less))))
             (λ e a. absurd (let q : Greater ≡ Less = rw e at less in cc))
 
@@ -295,14 +292,14 @@ popped old pushed all new k n a b c d =
 
 -- ---- the ends of the walk
 
-pub zero_end : (p : ℕ) (t : Raw) (f : Form) (ks : List ℕ) → length ks ≡ f.degree → IsZeroAt p t f ks → IsZeroFrom p t f ks
-zero_end p t f ks e z [] h = subst (IsZeroAt p t f) (sym (append-nil ks)) z
+pub zero_end : (p : ℕ) (t : Raw) (f : Form) (ks : List ℕ) → length ks ≡ f.degree → IsZeroAtTuple p t f ks → IsZeroFrom p t f ks
+zero_end p t f ks e z [] h = subst (IsZeroAtTuple p t f) (sym (append-nil ks)) z
 zero_end p t f ks e z (j ∷ js) h = absurd (omega (arith, h.long, length-append ks (j ∷ js)))
 
-pub first_end : (p : ℕ) (t : Raw) (f : Form) (ks : List ℕ) → IsTuple t f ks → (IsZeroAt p t f ks → ⊥) → IsFirstFrom p t f ks ks
+pub first_end : (p : ℕ) (t : Raw) (f : Form) (ks : List ℕ) → IsTuple t f ks → (IsZeroAtTuple p t f ks → ⊥) → IsFirstFrom p t f ks ks
 first_end p t f ks h n = record { rest = []; is = sym (append-nil ks); is_tuple = h; fails = n; first = none }
   where
-    none : (js : List ℕ) → IsTuple t f (ks ++ js) → slice_cmp nat_cmp js [] ≡ Less → IsZeroAt p t f (ks ++ js)
+    none : (js : List ℕ) → IsTuple t f (ks ++ js) → slice_cmp nat_cmp js [] ≡ Less → IsZeroAtTuple p t f (ks ++ js)
     none [] h less = absurd (let q : Equal ≡ Less = less in cc)
     none (j ∷ js) h less = absurd (let q : Greater ≡ Less = less in cc)
 

@@ -1,11 +1,7 @@
 pub mod Raw
-pub mod Limits
-pub mod Shape
 pub mod TableAlgebra
-pub mod First
 pub mod Walk
 pub mod Products
-pub mod Answers
 pub mod Verdict
 pub mod SubTable
 pub mod Laws

@@ -3,11 +3,11 @@ use Rattle.std.specs.Prelude.{◌≡◌, ℕ, ◌*◌, ◌<◌, ◌≤◌, ◌==
 use Rattle.std.specs.List.{All, AllPairs, flat_map}
 use Rattle.gf_sums.specs.Sums.{Comb, scale}
 use Rattle.alb_mono.specs.Listing.{Each}
-use Rattle.alb_rows.specs.Row.{Cells, comb, AreResidues, AreSameVector}
+use Rattle.alb_rows.specs.Row.{Cells, comb, AreCellResidues, AreSameVector}
 use Rattle.alb_check.specs.declared.product.Product.{Product}
 use Rattle.alb_check.specs.declared.raw.RawEntry.{RawEntry}
 use Rattle.alb_check.specs.Raw.{Raw}
-use Rattle.alb_check.specs.TableAlgebra.{product, generator_value}
+use Rattle.alb_check.specs.TableAlgebra.{element_product, generator_value}
 
 -- the row of the product of two elements, zero where the list has none
 abbrev pub row_at : List Product → ℕ → ℕ → Cells
@@ -25,18 +25,18 @@ is_pair_before i j k l = nat_lt i k || (i == k && nat_lt j l)
 -- ascending by pairs, each with a row of residues
 pub record AreProducts (p : ℕ) (xs : List Product) : Type 0 where
   pub ascending : AllPairs (λ x y. IsTrue (is_pair_before x.left x.right y.left y.right)) xs
-  pub residues : Each (λ x. AreResidues p x.row) xs
+  pub residues : Each (λ x. AreCellResidues p x.row) xs
 
 -- they are the products of the table
 abbrev pub GivesProducts : ℕ → Raw → List Product → Type 0
-GivesProducts p t xs = (i j : ℕ) → AreSameVector p (listed_product xs i j) (product t i j)
+GivesProducts p t xs = (i j : ℕ) → AreSameVector p (listed_product xs i j) (element_product t i j)
 
 -- the entry has these factors
 abbrev pub has_factors : ℕ → ℕ → RawEntry → Bool
 has_factors i j e = e.left == i && e.right == j
 
 -- the entries from `start` on and before `end` have one pair of factors, and the next has another
-pub record IsRun (es : List RawEntry) (start end : ℕ) : Type 0 where
+pub record IsFactorRun (es : List RawEntry) (start end : ℕ) : Type 0 where
   pub above : start < end
   pub within : end ≤ length es
   pub same : (d : RawEntry) (k : ℕ) → start ≤ k → k < end
@@ -56,4 +56,4 @@ vectors rows k = comb (slice_index_or rows k [])
 pub record GivesGenerators (t : Raw) (rows : List Cells) : Type 0 where
   pub long : length rows ≡ length t.generators
   pub values : (g : ℕ) → vectors rows g ≡ generator_value t g
-  pub residues : (p : ℕ) → 1 < p → All (λ r. AreResidues p r) rows
+  pub residues : (p : ℕ) → 1 < p → All (λ r. AreCellResidues p r) rows

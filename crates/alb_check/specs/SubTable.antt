@@ -2,15 +2,11 @@
 use Rattle.std.specs.Prelude.{ℕ, ◌+◌, Bool, if◌then◌else◌, List, [], length, map, Option, Some, None, unwrap_or, ◌≡◌}
 use Rattle.std.specs.List.{filter, flat_map}
 use Rattle.std.specs.declared.cmp.Ordering.TheVariants.{Less}
-use Rattle.alb_mono.specs.Tree.{Tree, type_of, type_le, type_plus, cmp_types}
-use Rattle.alb_mono.specs.Types.{rising}
+use Rattle.alb_mono.specs.Tree.{Tree, type_of, type_le, type_plus, cmp_types, rising}
 use Rattle.alb_poly.specs.Poly.{Poly}
 use Rattle.alb_rows.specs.Row.{Cells}
-use Rattle.alb_table.specs.Entry.{entry_of}
-use Rattle.alb_table.specs.Leading.{IsZeroAt}
-use Rattle.alb_table.specs.PartView.{elems, type_at}
-use Rattle.alb_table.specs.Right.{IsOfType}
-use Rattle.alb_table.specs.Table.{Table}
+use Rattle.alb_table.specs.Table.{entry_of, elems, type_at, Table}
+use Rattle.alb_table.specs.Right.{IsZeroAt, IsOfType}
 use Rattle.alb_check.specs.declared.raw.RawEntry.{RawEntry}
 use Rattle.alb_check.specs.Raw.{Raw}
 

@@ -8,13 +8,12 @@ use Rattle.gf_sums.specs.Sums.{total}
 use Rattle.alb_mono.specs.Listing.{Each, IsIn}
 use Rattle.alb_mono.specs.Tree.{type_le}
 use Rattle.alb_poly.specs.Instance.{Form}
-use Rattle.alb_poly.specs.Rules.{form}
+use Rattle.alb_poly.specs.Consequence.{form}
 use Rattle.alb_linear.specs.Identity.{IsLinearized}
 use Rattle.alb_check.specs.declared.walk.Trial.{Trial}
-use Rattle.alb_check.specs.Raw.{Raw, raw, IsRaw}
-use Rattle.alb_check.specs.Shape.{shape_fault, type_at}
+use Rattle.alb_check.specs.Raw.{Raw, raw, IsRaw, shape_fault, element_type}
 use Rattle.alb_check.specs.Products.{AreProducts, GivesProducts}
-use Rattle.alb_check.specs.TableAlgebra.{IsElement, IsTuple, IsZeroAt}
+use Rattle.alb_check.specs.TableAlgebra.{IsElement, IsTuple, IsZeroAtTuple}
 
 -- a table in its shape, its products, and a linearized form
 pub record IsTrial (s : Trial) : Type 0 where
@@ -26,7 +25,7 @@ pub record IsTrial (s : Trial) : Type 0 where
 
 -- how often a generator occurs in the type of an element
 abbrev pub count_at : Raw → ℕ → ℕ → ℕ
-count_at t g k = slice_index_or (type_at t k) g 0
+count_at t g k = slice_index_or (element_type t k) g 0
 
 -- the types of the elements `ks` and `rest` add up to the top type
 pub record Leaves (t : Raw) (ks rest : List ℕ) : Type 0 where
@@ -34,23 +33,23 @@ pub record Leaves (t : Raw) (ks rest : List ℕ) : Type 0 where
   pub sums : (g : ℕ) → total (count_at t g) ks + slice_index_or rest g 0 ≡ slice_index_or t.top g 0
 
 -- the element's type is at most `rest`
-abbrev pub fits : Raw → List ℕ → ℕ → Bool
-fits t rest k = type_le (type_at t k) rest
+abbrev pub fits_top : Raw → List ℕ → ℕ → Bool
+fits_top t rest k = type_le (element_type t k) rest
 
 -- elements in ascending order, among them all whose types are at most `rest`
 pub record AreCandidates (t : Raw) (rest ks : List ℕ) : Type 0 where
   pub ascending : AllPairs (λ a b. a < b) ks
   pub elements : Each (IsElement t) ks
-  pub all : (k : ℕ) → IsElement t k → fits t rest k ≡ true → IsIn k ks
+  pub all : (k : ℕ) → IsElement t k → fits_top t rest k ≡ true → IsIn k ks
 
 -- the form is zero at all tuples that begin with `ks`
 abbrev pub IsZeroFrom : ℕ → Raw → Form → List ℕ → Type 0
-IsZeroFrom p t f ks = (js : List ℕ) → IsTuple t f (ks ++ js) → IsZeroAt p t f (ks ++ js)
+IsZeroFrom p t f ks = (js : List ℕ) → IsTuple t f (ks ++ js) → IsZeroAtTuple p t f (ks ++ js)
 
 -- of the tuples that begin with `ks`, the first at which the form is not zero
 pub record IsFirstFrom (p : ℕ) (t : Raw) (f : Form) (ks tuple : List ℕ) : Type 0 where
   pub rest : List ℕ
   pub is : tuple ≡ ks ++ rest
   pub is_tuple : IsTuple t f tuple
-  pub fails : IsZeroAt p t f tuple → ⊥
-  pub first : (js : List ℕ) → IsTuple t f (ks ++ js) → slice_cmp nat_cmp js rest ≡ Less → IsZeroAt p t f (ks ++ js)
+  pub fails : IsZeroAtTuple p t f tuple → ⊥
+  pub first : (js : List ℕ) → IsTuple t f (ks ++ js) → slice_cmp nat_cmp js rest ≡ Less → IsZeroAtTuple p t f (ks ++ js)

@@ -1,15 +1,12 @@
 ghost use Rattle.std.specs.Prelude.{◌≡◌, ◌<◌, ◌≤◌, IsTrue, All, IfOk, OnOk, None, length};
-ghost use Rattle.alb_poly.specs.Consequence.{IsConsequence};
+ghost use Rattle.alb_poly.specs.Consequence.{IsConsequence, forms};
 ghost use Rattle.alb_poly.specs.Poly.{AreResidues};
-ghost use Rattle.alb_poly.specs.Rules.{forms};
 ghost use Rattle.alb_mono.specs.Tree.{are_below};
 ghost use Rattle.alb_rows.specs.Row.{comb, AreResidues as HasResidues, AreSameVector};
-ghost use Rattle.alb_check.specs.Raw.{raw, IsRaw};
-ghost use Rattle.alb_check.specs.Shape.{shape_fault};
-ghost use Rattle.alb_check.specs.TableAlgebra.{value, IsNilpotent};
-ghost use Rattle.alb_check.specs.First.{AreZeroAtTuples};
+ghost use Rattle.alb_check.specs.Raw.{raw, IsRaw, shape_fault};
+ghost use Rattle.alb_check.specs.TableAlgebra.{value, IsNilpotent, AreZeroAtTuples};
 ghost use Rattle.alb_check.specs.Products.{AreProducts, GivesProducts, GivesGenerators};
-ghost use Rattle.alb_check.specs.Answers.{AreRules, Answers, FindsFailure, SatisfiesIdentities, RefutesText};
+ghost use Rattle.alb_check.specs.Verdict.{AreCheckRules, TableAnswers, FindsFailure, SatisfiesIdentities, RefutesText};
 
 use crate::product::{Product, products_of};
 use crate::shape::shape_fault;
@@ -35,7 +32,7 @@ fn try_identities(
     table: &RawTable,
     products: &[Product],
 ) -> Result<(), TableError>
-    requires rules { AreRules rules.now.field rules.now.target (forms rules.now) }
+    requires rules { AreCheckRules rules.now.field rules.now.target (forms rules.now) }
     requires raw { IsRaw rules.now.field (length rules.now.target) (raw table.now) }
     requires shape { shape_fault rules.now.target rules.now.field (raw table.now) ≡ None }
     requires products { AreProducts rules.now.field products.now }
@@ -74,7 +71,7 @@ fn claimed_value(
     products: &[Product],
     g: &Poly,
 ) -> Result<Row, NoMemory>
-    requires rules { AreRules rules.now.field rules.now.target (forms rules.now) }
+    requires rules { AreCheckRules rules.now.field rules.now.target (forms rules.now) }
     requires raw { IsRaw rules.now.field (length rules.now.target) (raw table.now) }
     requires shape { shape_fault rules.now.target rules.now.field (raw table.now) ≡ None }
     requires products { AreProducts rules.now.field products.now }
@@ -103,11 +100,11 @@ pub fn check_table(
     table: &RawTable,
     g: &Poly,
 ) -> Result<Counter, TableError>
-    requires rules { AreRules rules.now.field rules.now.target (forms rules.now) }
+    requires rules { AreCheckRules rules.now.field rules.now.target (forms rules.now) }
     requires raw { IsRaw rules.now.field (length rules.now.target) (raw table.now) }
     requires residues { AreResidues rules.now.field g.now }
     requires known { All (λ t. IsTrue (are_below (length rules.now.target) t.1)) g.now }
-    ensures exact { Answers rules.now.field rules.now.target (forms rules.now) (raw table.now) g.now result }
+    ensures exact { TableAnswers rules.now.field rules.now.target (forms rules.now) (raw table.now) g.now result }
     ensures nilpotent { OnOk result (IsNilpotent rules.now.field (raw table.now)) }
     ensures satisfies { OnOk result (SatisfiesIdentities rules.now.field (forms rules.now) (raw table.now)) }
     ensures refutes { OnOk result (IsConsequence rules.now.field (forms rules.now) g.now → ⊥) }

@@ -1,8 +1,8 @@
 ghost use Rattle.std.specs.Prelude.{◌≡◌, ◌<◌, ◌≤◌, ◌++◌, ℕ, [], All, IfOk, OnOk, IsTrue, MatchOption, length, map, true, slice_index_or, slice_range};
-ghost use Rattle.alb_rows.specs.Row.{comb, AreResidues, AreSameVector};
-ghost use Rattle.alb_check.specs.Shape.{are_ascending};
-ghost use Rattle.alb_check.specs.TableAlgebra.{entries_product, sum_of};
-ghost use Rattle.alb_check.specs.Products.{AreProducts, IsRun, listed_product, row_at};
+ghost use Rattle.alb_rows.specs.Row.{comb, AreCellResidues, AreSameVector};
+ghost use Rattle.alb_check.specs.Raw.{are_ascending};
+ghost use Rattle.alb_check.specs.TableAlgebra.{entries_product, vector_of};
+ghost use Rattle.alb_check.specs.Products.{AreProducts, IsFactorRun, listed_product, row_at};
 
 use crate::RawEntry;
 use alb_mono::NoMemory;
@@ -22,8 +22,8 @@ pub(crate) struct Product {
 fn row_of(alloc: Global, field: &Field, entries: &[RawEntry]) -> Result<Row, NoMemory>
     requires residues { All (λ e. e.coef < field.now) entries.now }
     requires numbers { All (λ e. e.to < 4294967296) entries.now }
-    ensures value { IfOk result (λ r. AreSameVector field.now (comb r) (sum_of entries.now)) }
-    ensures residues { IfOk result (λ r. AreResidues field.now r) }
+    ensures value { IfOk result (λ r. AreSameVector field.now (comb r) (vector_of entries.now)) }
+    ensures residues { IfOk result (λ r. AreCellResidues field.now r) }
 {
     match entries {
         [] => Ok(Row::new(alloc)),
@@ -42,7 +42,7 @@ fn row_of(alloc: Global, field: &Field, entries: &[RawEntry]) -> Result<Row, NoM
 // Where the run of the entries with the factors of the one at `start` ends.
 fn run_end(entries: &[RawEntry], start: usize) -> usize
     requires { start < length entries.now }
-    ensures { IsRun entries.now start result }
+    ensures { IsFactorRun entries.now start result }
 {
     let first = entries[start];
     let mut end = start + 1;

@@ -3,8 +3,7 @@ ghost use Rattle.std.specs.Prelude.{◌≡◌, ◌*◌, ◌%◌, ◌==◌, ◌<�
 ghost use Rattle.std.specs.List.{list_all};
 ghost use Rattle.alb_mono.specs.Tree.{type_plus};
 ghost use Rattle.alb_poly.specs.Poly.{list_eq};
-ghost use Rattle.alb_check.specs.Raw.{raw, IsRaw};
-ghost use Rattle.alb_check.specs.Shape.{is_element, type_at, is_top_right, are_elements_right, is_generator_right, are_generators_right, is_entry_right, are_entries_right, is_before, are_ascending, are_nonzero, shape_fault};
+ghost use Rattle.alb_check.specs.Raw.{raw, IsRaw, is_element, element_type, is_top_right, are_elements_right, is_generator_right, are_generators_right, is_entry_right, are_entries_right, is_before, are_ascending, are_nonzero, shape_fault};
 
 use crate::{RawEntry, RawTable};
 use alb_mono::{Mono, Multi};
@@ -15,7 +14,7 @@ const ELEMENTS: u64 = 4_294_967_296;
 
 /// The type of the element of a number, if there is one.
 pub(crate) fn element(table: &RawTable, k: u64) -> Option<&Multi>
-    ensures { MatchOption result (is_element (raw table.now) k ≡ false) (λ m. (is_element (raw table.now) k ≡ true) × (m.now ≡ type_at (raw table.now) k)) }
+    ensures { MatchOption result (is_element (raw table.now) k ≡ false) (λ m. (is_element (raw table.now) k ≡ true) × (m.now ≡ element_type (raw table.now) k)) }
 {
     if k == 0 || (table.elements.len() as u64) < k {
         return None;

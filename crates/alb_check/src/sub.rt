@@ -2,11 +2,9 @@
 ghost use Rattle.std.specs.Prelude.{◌≡◌, ℕ, ◌<◌, ◌++◌, true, [], All, IfOk, OnOk, length, map, slice_index_or, unwrap_or};
 ghost use Rattle.std.specs.List.{flat_map};
 ghost use Rattle.alb_mono.specs.Listing.{Each};
-ghost use Rattle.alb_mono.specs.Tree.{type_le};
-ghost use Rattle.alb_mono.specs.Types.{rising};
+ghost use Rattle.alb_mono.specs.Tree.{type_le, rising};
 ghost use Rattle.alb_rows.specs.Row.{ColumnsBelow};
-ghost use Rattle.alb_table.specs.Entry.{entry_of};
-ghost use Rattle.alb_table.specs.PartView.{elems, type_at};
+ghost use Rattle.alb_table.specs.Table.{entry_of, elems, type_at};
 ghost use Rattle.alb_check.specs.Raw.{raw, IsRaw};
 ghost use Rattle.alb_check.specs.SubTable.{kept_elements, number_of, generator_number, row_entries, product_entries, sub_table};
 

@@ -1,11 +1,10 @@
 //! Values in the algebra of a list of products.
 ghost use Rattle.std.specs.Prelude.{◌≡◌, ℕ, ◌*◌, ◌<◌, ◌≤◌, ◌++◌, IsTrue, IfOk, OnOk, All, length, slice_index_or, []};
 ghost use Rattle.gf_sums.specs.Sums.{scale, multiply};
-ghost use Rattle.alb_mono.specs.Mono.{tree};
-ghost use Rattle.alb_mono.specs.Tree.{are_below};
-ghost use Rattle.alb_poly.specs.Algebra.{evaluate, evaluate_poly};
+ghost use Rattle.alb_mono.specs.Tree.{tree, are_below};
+ghost use Rattle.alb_poly.specs.Textbook.{evaluate, evaluate_poly};
 ghost use Rattle.alb_poly.specs.Poly.{AreResidues as HasResidues};
-ghost use Rattle.alb_rows.specs.Row.{comb, AreResidues, AreSameVector};
+ghost use Rattle.alb_rows.specs.Row.{comb, AreCellResidues, AreSameVector};
 ghost use Rattle.alb_check.specs.Products.{AreProducts, listed_product, times_right, vectors};
 
 use crate::product::{Product, product_at};
@@ -27,8 +26,8 @@ impl Algebra<'_> {
     fn add_product(&self, c: Residue, left: u32, right: u32, sum: &mut Row) -> Result<(), NoMemory>
         requires products { AreProducts self.now.field.now self.now.products.now }
         requires coefficient { c < self.now.field.now }
-        requires row { AreResidues self.now.field.now sum.old }
-        ensures row { OnOk result (AreResidues self.now.field.now sum.new) }
+        requires row { AreCellResidues self.now.field.now sum.old }
+        ensures row { OnOk result (AreCellResidues self.now.field.now sum.new) }
         ensures value { OnOk result (AreSameVector self.now.field.now (comb sum.new) (comb sum.old ++ scale c (listed_product self.now.products.now left right))) }
     {
         match product_at(self.products, u64::from(left), u64::from(right)) {
@@ -41,9 +40,9 @@ impl Algebra<'_> {
     fn add_times(&self, c: Residue, left: u32, right: &Row, sum: &mut Row) -> Result<(), NoMemory>
         requires products { AreProducts self.now.field.now self.now.products.now }
         requires coefficient { c < self.now.field.now }
-        requires right { AreResidues self.now.field.now right.now }
-        requires row { AreResidues self.now.field.now sum.old }
-        ensures row { OnOk result (AreResidues self.now.field.now sum.new) }
+        requires right { AreCellResidues self.now.field.now right.now }
+        requires row { AreCellResidues self.now.field.now sum.old }
+        ensures row { OnOk result (AreCellResidues self.now.field.now sum.new) }
         ensures value { OnOk result (AreSameVector self.now.field.now (comb sum.new) (comb sum.old ++ times_right self.now.products.now c left (comb right.now))) }
     {
         for cell in right.cells() {
@@ -55,9 +54,9 @@ impl Algebra<'_> {
     // The product of two vectors.
     fn product_of(&self, alloc: Global, left: &Row, right: &Row) -> Result<Row, NoMemory>
         requires products { AreProducts self.now.field.now self.now.products.now }
-        requires left { AreResidues self.now.field.now left.now }
-        requires right { AreResidues self.now.field.now right.now }
-        ensures row { IfOk result (λ r. AreResidues self.now.field.now r) }
+        requires left { AreCellResidues self.now.field.now left.now }
+        requires right { AreCellResidues self.now.field.now right.now }
+        ensures row { IfOk result (λ r. AreCellResidues self.now.field.now r) }
         ensures value { IfOk result (λ r. AreSameVector self.now.field.now (comb r) (multiply (listed_product self.now.products.now) (comb left.now) (comb right.now))) }
     {
         let mut sum = Row::new(alloc);
@@ -70,9 +69,9 @@ impl Algebra<'_> {
     // The value of a monomial, with each generator at its vector.
     fn monomial_value(&self, alloc: Global, rows: &[Row], m: &Mono) -> Result<Row, NoMemory>
         requires products { AreProducts self.now.field.now self.now.products.now }
-        requires rows { All (λ r. AreResidues self.now.field.now r) rows.now }
+        requires rows { All (λ r. AreCellResidues self.now.field.now r) rows.now }
         requires known { IsTrue (are_below (length rows.now) (tree m.now)) }
-        ensures row { IfOk result (λ r. AreResidues self.now.field.now r) }
+        ensures row { IfOk result (λ r. AreCellResidues self.now.field.now r) }
         ensures value { IfOk result (λ r. AreSameVector self.now.field.now (comb r) (evaluate (listed_product self.now.products.now) (vectors rows.now) (tree m.now))) }
     {
         match m {
@@ -88,10 +87,10 @@ impl Algebra<'_> {
     /// The value of a polynomial, with each generator at its vector.
     pub(crate) fn value_of(&self, alloc: Global, rows: &[Row], f: &Poly) -> Result<Row, NoMemory>
         requires products { AreProducts self.now.field.now self.now.products.now }
-        requires rows { All (λ r. AreResidues self.now.field.now r) rows.now }
+        requires rows { All (λ r. AreCellResidues self.now.field.now r) rows.now }
         requires coefficients { HasResidues self.now.field.now f.now }
         requires known { All (λ t. IsTrue (are_below (length rows.now) t.1)) f.now }
-        ensures row { IfOk result (λ r. AreResidues self.now.field.now r) }
+        ensures row { IfOk result (λ r. AreCellResidues self.now.field.now r) }
         ensures value { IfOk result (λ r. AreSameVector self.now.field.now (comb r) (evaluate_poly (listed_product self.now.products.now) (vectors rows.now) f.now)) }
     {
         let mut sum = Row::new(alloc);

@@ -3,14 +3,12 @@
 ghost use Rattle.std.specs.Prelude.{◌≡◌, ◌≤◌, IsTrue, ◌↔◌, All, IfOk, MatchOption, Some, None, length, true, false};
 ghost use Rattle.std.specs.List.{filter};
 ghost use Rattle.alb_mono.specs.Listing.{Each};
-ghost use Rattle.alb_mono.specs.Types.{type_minus};
+ghost use Rattle.alb_mono.specs.Tree.{type_minus};
 ghost use Rattle.alb_linear.specs.Identity.{IsLinearized};
-ghost use Rattle.alb_poly.specs.Rules.{form};
-ghost use Rattle.alb_check.specs.Raw.{raw, IsRaw};
-ghost use Rattle.alb_check.specs.Shape.{shape_fault, type_at};
-ghost use Rattle.alb_check.specs.TableAlgebra.{IsElement, IsTuple, IsZeroAt, IsZeroAtTuples};
-ghost use Rattle.alb_check.specs.First.{IsFirstTuple};
-ghost use Rattle.alb_check.specs.Walk.{IsTrial, Leaves, fits, AreCandidates, IsZeroFrom, IsFirstFrom};
+ghost use Rattle.alb_poly.specs.Consequence.{form};
+ghost use Rattle.alb_check.specs.Raw.{raw, IsRaw, shape_fault, element_type};
+ghost use Rattle.alb_check.specs.TableAlgebra.{IsElement, IsTuple, IsZeroAtTuple, IsZeroAtTuples, IsFirstTuple};
+ghost use Rattle.alb_check.specs.Walk.{IsTrial, Leaves, fits_top, AreCandidates, IsZeroFrom, IsFirstFrom};
 ghost use Rattle.alb_check.specs.Products.{AreProducts, GivesProducts};
 
 use crate::RawTable;
@@ -34,7 +32,7 @@ struct Trial<'a> {
 fn is_zero_at(alloc: Global, trial: &Trial, tuple: &[u64]) -> Result<bool, NoMemory>
     requires trial { IsTrial trial.now }
     requires tuple { IsTuple (raw trial.now.table.now) (form trial.now.linear.now) tuple.now }
-    ensures { IfOk result (λ b. IsTrue b ↔ IsZeroAt trial.now.rules.now.field (raw trial.now.table.now) (form trial.now.linear.now) tuple.now) }
+    ensures { IfOk result (λ b. IsTrue b ↔ IsZeroAtTuple trial.now.rules.now.field (raw trial.now.table.now) (form trial.now.linear.now) tuple.now) }
 {
     let mut rows = Vec::new(alloc);
     for k in tuple {
@@ -59,7 +57,7 @@ fn those_fitting(
 ) -> Result<Vec<u64>, NoMemory>
     requires long { All (λ e. length e ≡ length rest.now) table.now.elements.items }
     requires elements { Each (IsElement (raw table.now)) candidates.now }
-    ensures { IfOk result (λ v. v.items ≡ filter (fits (raw table.now) rest.now) candidates.now) }
+    ensures { IfOk result (λ v. v.items ≡ filter (fits_top (raw table.now) rest.now) candidates.now) }
 {
     let mut out = Vec::new(alloc);
     for k in candidates {
@@ -73,9 +71,9 @@ fn those_fitting(
 // What the type of an element leaves of `rest`.
 fn rest_after(table: &RawTable, rest: &Multi, k: u64) -> Multi
     requires element { IsElement (raw table.now) k }
-    requires long { length (type_at (raw table.now) k) ≡ length rest.now }
-    requires fits { fits (raw table.now) rest.now k ≡ true }
-    ensures { result ≡ type_minus rest.now (type_at (raw table.now) k) }
+    requires long { length (element_type (raw table.now) k) ≡ length rest.now }
+    requires fits_top { fits_top (raw table.now) rest.now k ≡ true }
+    ensures { result ≡ type_minus rest.now (element_type (raw table.now) k) }
 {
     rest.minus(&table.elements[(k - 1) as usize])
 }

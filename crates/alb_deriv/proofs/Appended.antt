@@ -16,9 +16,8 @@ use Rattle.alb_mono.specs.Tree.{Tree, type_of, type_le, AreBelow, same_tree}
 use Rattle.alb_mono.specs.Listing.{Each}
 use Rattle.alb_mono.specs.declared.side.Side.{Side}
 use Rattle.alb_poly.specs.Poly.{Poly}
-use Rattle.alb_poly.specs.Context.{beside}
+use Rattle.alb_poly.specs.Consequence.{beside, form_at}
 use Rattle.alb_poly.specs.Instance.{Form, instance}
-use Rattle.alb_poly.specs.Consequence.{form_at}
 use Rattle.alb_poly.proofs.Multilinear.{each-append, each-map, each-from}
 use Rattle.alb_poly.proofs.Consequence.{poly_alike, alike_poly, itself'}
 use Rattle.alb_deriv.specs.Derivation.{Line, Instance, Times, Sum, earlier, line_value, line_values, fault, AreAllBelow, IsLineBelow, is_no_place, are_within, passes_target}

@@ -4,8 +4,7 @@ use Rattle.std.proofs.Common.{◌≡◌, ℕ, suc, ◌+◌, ◌*◌, ◌<◌, �
 use Rattle.std.specs.Bool.{IsTrue}
 use Rattle.std.proofs.lemmas.Bool.{eqb-true, and_parts}
 use Rattle.std.proofs.lemmas.List.{append-nil, length-append, length-map}
-use Rattle.gf_field.specs.Primes.{IsPrime}
-use Rattle.gf_field.specs.Modular.{IsSameMod}
+use Rattle.gf_field.specs.Modular.{IsPrime, IsSameMod}
 use Rattle.gf_field.proofs.Mod.{same}
 use Rattle.gf_sums.specs.Sums.{Comb, total, coefficient, reindex}
 use Rattle.gf_sums.proofs.Totals.{total-append, total-map, total-equal}
@@ -14,18 +13,15 @@ use Rattle.alb_mono.specs.Listing.{Each, IsIn}
 use Rattle.alb_mono.specs.Tree.{Tree, degree, count, listed, type_of, type_le, AreBelow, same_tree}
 use Rattle.alb_mono.specs.declared.side.Side.{Side}
 use Rattle.alb_poly.specs.Poly.{Poly}
-use Rattle.alb_poly.specs.Context.{beside, within}
-use Rattle.alb_poly.specs.Instance.{Form, fill, instance, leaves, IsMultilinear}
-use Rattle.alb_poly.specs.Consequence.{Item, form_at, IsItem, AreItems, IsConsequence, AreMultilinear}
-use Rattle.alb_poly.specs.Identity.{IsAtMost, IsWithin}
+use Rattle.alb_poly.specs.Consequence.{beside, within, Item, form_at, IsItem, AreItems, IsConsequence, AreMultilinear}
+use Rattle.alb_poly.specs.Instance.{Form, fill, instance, leaves, IsMultilinear, IsAtMost, IsWithin}
 use Rattle.alb_poly.proofs.Consequence.{value, poly_alike, alike_poly, itself'}
 use Rattle.alb_poly.proofs.Multilinear.{each-append, each-map, each-from}
 use Rattle.alb_poly.proofs.Orders.{flat-map, map-map}
 use Rattle.alb_poly.proofs.Terms.{absent-or}
 use Rattle.alb_poly.proofs.Parts.{multilinear_at, count-leaves, listed-equal}
 use Rattle.alb_problem.proofs.Keep.{item_leaves}
-use Rattle.alb_deriv.specs.Derivation.{Line, Instance, Times, AreAllBelow, are_within}
-use Rattle.alb_deriv.specs.Limits.{HasLimitedDerivation}
+use Rattle.alb_deriv.specs.Derivation.{Line, Instance, Times, AreAllBelow, are_within, HasLimitedDerivation}
 use Rattle.alb_deriv.specs.Short.{AreFine, IsLineOf, IsSumOf}
 use Rattle.alb_deriv.proofs.Appended.{IsFitting, line-kept, sum-alike, sum-zero, append-instance, append-times, fitting-each, nothing-fine}
 use Rattle.alb_deriv.proofs.Counting.{monos_within, few-within, all-within}

@@ -12,7 +12,7 @@ use Rattle.gf_sums.proofs.Totals.{total-append}
 use Rattle.alb_mono.specs.Listing.{Each, IsIn}
 use Rattle.alb_mono.specs.Tree.{Tree, leaf, node, degree, count, listed, type_of, type_le, AreBelow}
 use Rattle.alb_mono.proofs.ListingLemmas.{each-map, each-weaker, in-map, in-flat, in-left, in-right}
-use Rattle.alb_poly.specs.Identity.{IsAtMost}
+use Rattle.alb_poly.specs.Instance.{IsAtMost}
 use Rattle.alb_poly.proofs.AtMost.{degree-at_most}
 use Rattle.alb_poly.proofs.Multilinear.{sum_cons}
 

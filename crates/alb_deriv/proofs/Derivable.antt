@@ -13,10 +13,8 @@ use Rattle.alb_mono.specs.Tree.{Tree, leaf, node, count, listed, type_of, type_l
 use Rattle.alb_mono.specs.Listing.{Each}
 use Rattle.alb_mono.specs.declared.side.Side.{Side}
 use Rattle.alb_poly.specs.Poly.{Poly}
-use Rattle.alb_poly.specs.Context.{beside, within}
-use Rattle.alb_poly.specs.Instance.{Form, fill, instance, leaves, IsMultilinear}
-use Rattle.alb_poly.specs.Consequence.{Item, form_at, IsItem, item_value, AreItems, IsConsequence, AreMultilinear}
-use Rattle.alb_poly.specs.Identity.{IsAtMost, IsWithin}
+use Rattle.alb_poly.specs.Consequence.{beside, within, Item, form_at, IsItem, item_value, AreItems, IsConsequence, AreMultilinear}
+use Rattle.alb_poly.specs.Instance.{Form, fill, instance, leaves, IsMultilinear, IsAtMost, IsWithin}
 use Rattle.alb_poly.proofs.Orders.{map-map}
 use Rattle.alb_poly.proofs.Multilinear.{each-map, each-append, each-from}
 use Rattle.alb_poly.proofs.Parts.{multilinear_at, count-leaves, listed-equal}

@@ -12,9 +12,9 @@ use Rattle.alb_mono.specs.Listing.{Each}
 use Rattle.alb_poly.proofs.Multilinear.{each-append}
 use Rattle.alb_poly.proofs.Parts.{each_at}
 use Rattle.alb_poly.proofs.Consequence.{consequence-instance, consequence-zero, consequence-append, consequence-scale, consequence-beside}
-use Rattle.alb_deriv.specs.Derivation.{Line, Instance, Times, Sum, earlier, line_value, line_values, fault, Fault, AreSound, is_no_place}
+use Rattle.alb_deriv.specs.Derivation.{Line, Instance, Times, Sum, earlier, line_value, line_values, fault, DerivationFault, AreSound, is_no_place}
 
-pub none_if : (b : Bool) (x : Fault) (o : Option Fault) → (if b then Some x else o) ≡ None → (b ≡ false) × (o ≡ None)
+pub none_if : (b : Bool) (x : DerivationFault) (o : Option DerivationFault) → (if b then Some x else o) ≡ None → (b ≡ false) × (o ≡ None)
 none_if true x o h = absurd (cc)
 none_if false x o h = (refl, h)
 

@@ -4,8 +4,7 @@ use Rattle.std.specs.Bool.{if◌then◌else◌}
 use Rattle.std.specs.List.{flat_map}
 use Rattle.std.proofs.lemmas.Bool.{cases_eq}
 use Rattle.std.proofs.Math.Nat.{mod-lt, mod-eq_of_lt}
-use Rattle.gf_field.specs.Modular.{IsSameMod, IsUnit}
-use Rattle.gf_field.specs.Primes.{IsPrime}
+use Rattle.gf_field.specs.Modular.{IsSameMod, IsUnit, IsPrime}
 use Rattle.gf_field.proofs.Mod.{same, back, ◌⊙◌, plus, times, of_mod, multiple}
 use Rattle.gf_field.proofs.Table.{IsUnit-below_prime}
 use Rattle.gf_sums.specs.Sums.{Comb, weigh, coefficient, scale}

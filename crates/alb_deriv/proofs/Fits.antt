@@ -8,17 +8,14 @@ use Rattle.std.proofs.lemmas.Bool.Decides.{nat_tests}
 use Rattle.gf_sums.specs.Sums.{total, coefficient, IsCanonical}
 use Rattle.gf_sums.proofs.Totals.{total-equal}
 use Rattle.alb_mono.specs.Listing.{Each}
-use Rattle.alb_mono.specs.Tree.{Tree, degree, count, listed, type_of, type_le, AreBelow, are_below, same_tree, cmp_monos}
-use Rattle.alb_mono.specs.Mono.{tree}
+use Rattle.alb_mono.specs.Tree.{Tree, degree, count, listed, type_of, type_le, AreBelow, are_below, same_tree, cmp_monos, tree}
 use Rattle.alb_mono.specs.declared.mono.Mono.{Mono}
 use Rattle.alb_mono.specs.declared.side.Side.{Side}
 use Rattle.alb_mono.specs.declared.side.Side.TheVariants.{Left, Right}
 use Rattle.alb_mono.proofs.Leaves.{below_from_test}
-use Rattle.alb_poly.specs.Poly.{Poly}
-use Rattle.alb_poly.specs.Normal.{normal}
-use Rattle.alb_poly.specs.Context.{beside}
-use Rattle.alb_poly.specs.Identity.{IsAtMost}
-use Rattle.alb_poly.specs.Instance.{fill, leaves, run, Form, instance, IsMultilinear, IsMultilinearForm}
+use Rattle.alb_poly.specs.Poly.{Poly, normal}
+use Rattle.alb_poly.specs.Consequence.{beside}
+use Rattle.alb_poly.specs.Instance.{IsAtMost, fill, leaves, total_from, Form, instance, IsMultilinear, IsMultilinearForm}
 use Rattle.alb_poly.proofs.AtMost.{run-plus_both, degree-counts, run-at_most}
 use Rattle.alb_poly.proofs.Multilinear.{each-map, leaves-multilinear, past, past-below, none_past}
 use Rattle.alb_poly.proofs.NormalLemmas.{normal-each, normal-same, canonical-normal}
@@ -26,7 +23,7 @@ use Rattle.alb_poly.proofs.Parts.{count-leaves, listed-equal}
 use Rattle.alb_poly.proofs.Terms.{canonical-coefficients}
 use Rattle.alb_poly.proofs.Consequence.{tree_tells}
 use Rattle.alb_deriv.specs.Derivation.{are_within, AreAllBelow, passes_target}
-use Rattle.alb_deriv.specs.Answers.{IsFit}
+use Rattle.alb_deriv.specs.Answers.{IsPolyAtMost}
 
 -- ---- the monomials of a line
 
@@ -38,7 +35,7 @@ total_past : (n : ℕ) (ms : List Tree) → AreAllBelow n ms → total (leaves (
 total_past n [] h = refl
 total_past n (m ∷ ms) h = omega (arith, past-below n m h.0, total_past n ms h.1)
 
-degrees-counts : (n : ℕ) (ms : List Tree) → AreAllBelow n ms → total degree ms ≤ run (λ g. total (λ m. count g m) ms) 0 n
+degrees-counts : (n : ℕ) (ms : List Tree) → AreAllBelow n ms → total degree ms ≤ total_from (λ g. total (λ m. count g m) ms) 0 n
 degrees-counts n [] h = omega arith
 degrees-counts n (m ∷ ms) h =
     omega (arith, degree-counts n m h.0, degrees-counts n ms h.1, run-plus_both (λ g. count g m) (λ g. total (λ x. count g x) ms) 0 n)
@@ -58,7 +55,7 @@ filled target ms m h b w = record {
 }
 
 pub instance-fit : (target : List ℕ) (f : Form) (ms : List Tree) → IsMultilinearForm f → length ms ≡ f.degree → AreAllBelow (length target) ms → are_within target ms ≡ true →
-    IsFit target (instance f ms)
+    IsPolyAtMost target (instance f ms)
 instance-fit target f ms h n b w =
     each-map (λ t. IsMultilinear f.degree t.1) (λ t. IsAtMost target t.1) _ f.terms (λ t k. filled target ms t.1 (subst (λ d. IsMultilinear d t.1) (sym n) k) b w) h
 

@@ -4,17 +4,16 @@ use Rattle.std.specs.Prelude.{◌&&◌}
 use Rattle.std.proofs.lemmas.Bool.{false≢true, eqb-true, eq-eqb}
 use Rattle.gf_sums.proofs.Alike.{Alike, joined, turned}
 use Rattle.alb_mono.proofs.Both.{both_tests}
-use Rattle.alb_poly.specs.Poly.{Poly, IsSamePoly}
-use Rattle.alb_poly.specs.Normal.{normal}
+use Rattle.alb_poly.specs.Poly.{Poly, IsSamePoly, normal}
 use Rattle.alb_poly.proofs.NormalLemmas.{normal-alike, same-normal}
 use Rattle.alb_poly.specs.Instance.{Form}
 use Rattle.alb_poly.specs.Consequence.{IsConsequence}
 use Rattle.alb_poly.proofs.Consequence.{poly_alike, tree_tells, consequence-same, consequence-zero}
 use Rattle.alb_poly.proofs.Parts.{each_at}
-use Rattle.alb_deriv.specs.Derivation.{Line, Fault, line_value, line_values, fault, or_later, or_claim, claim_fault, first_fault, AreSound, IsDerivation, same_terms, last_value}
+use Rattle.alb_deriv.specs.Derivation.{Line, DerivationFault, line_value, line_values, fault, or_later, or_claim, claim_fault, first_fault, AreSound, IsDerivation, same_terms, last_value}
 use Rattle.alb_deriv.proofs.Derived.{lines-consequences}
 
-none_later : (k : ℕ) (o : Option Fault) (later : Option (Fault × ℕ)) → or_later k o later ≡ None → (o ≡ None) × (later ≡ None)
+none_later : (k : ℕ) (o : Option DerivationFault) (later : Option (DerivationFault × ℕ)) → or_later k o later ≡ None → (o ≡ None) × (later ≡ None)
 none_later k None later h = (refl, h)
 none_later k (Some x) later h = absurd (cc)
 
@@ -53,7 +52,7 @@ pub same_terms-whole : (f : Poly) → same_terms f f ≡ true
 same_terms-whole [] = refl
 same_terms-whole (s ∷ f) = rw (eq-eqb s.0 s.0 refl, tree_tells.whole s.1, same_terms-whole f) refl
 
-none_claim : (o : Option (Fault × ℕ)) (b : Bool) → or_claim o b ≡ None → (o ≡ None) × (b ≡ true)
+none_claim : (o : Option (DerivationFault × ℕ)) (b : Bool) → or_claim o b ≡ None → (o ≡ None) × (b ≡ true)
 none_claim (Some x) b h = absurd (cc)
 none_claim None true h = (refl, refl)
 none_claim None false h = absurd (cc)

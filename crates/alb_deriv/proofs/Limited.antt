@@ -12,8 +12,7 @@ use Rattle.alb_poly.specs.Poly.{Poly}
 use Rattle.alb_poly.specs.Instance.{Form}
 use Rattle.alb_poly.specs.Consequence.{form_at}
 use Rattle.alb_linear.proofs.LinearLemmas.{degree-pos, test_from_below}
-use Rattle.alb_deriv.specs.Derivation.{Line, Instance, Times, Sum, line_value, fault, BadIdentity, WrongCount, LaterLine, OutOfType, AreSound, AreAllBelow, IsLineBelow, are_within, is_no_place}
-use Rattle.alb_deriv.specs.Limits.{AreMonos, AreItems, IsLimited, IsLimitedDerivation}
+use Rattle.alb_deriv.specs.Derivation.{Line, Instance, Times, Sum, line_value, fault, BadIdentity, WrongCount, LaterLine, OutOfType, AreSound, AreAllBelow, IsLineBelow, are_within, is_no_place, AreMonos, AreSumItems, IsLimited, IsLimitedDerivation}
 use Rattle.alb_deriv.specs.Short.{IsShort, AreFine, IsLineOf}
 use Rattle.alb_deriv.proofs.Derived.{none_if}
 use Rattle.alb_deriv.proofs.Fits.{within-degree, none-any}
@@ -41,7 +40,7 @@ monos-limited : (n d : ℕ) (ms : List Tree) → AreAllBelow n ms → total degr
 monos-limited n d [] b h l = tt
 monos-limited n d (m ∷ ms) b h l = (test_from_below n m b.0, omega arith, monos-limited n d ms b.1 (omega arith) l)
 
-items-limited : (p n : ℕ) (cs : List (ℕ × ℕ)) → Each (λ c. c.0 < p) cs → Each (λ c. is_no_place n c.1 ≡ false) cs → n < 10 ^ 18 → AreItems p cs
+items-limited : (p n : ℕ) (cs : List (ℕ × ℕ)) → Each (λ c. c.0 < p) cs → Each (λ c. is_no_place n c.1 ≡ false) cs → n < 10 ^ 18 → AreSumItems p cs
 items-limited p n [] r h l = tt
 items-limited p n (c ∷ cs) r h l = let q : (0 < c.1) × (c.1 ≤ n) = place_positive n c.1 h.0 in (r.0, omega (arith, q.1), items-limited p n cs r.1 h.1 l)
 

@@ -1,44 +1,36 @@
 -- The polynomials of single lines.
-use Rattle.std.proofs.Common.{◌≡◌, ℕ, zero, suc, ◌+◌, ◌-◌, ◌*◌, ◌<◌, ◌≤◌, Bool, true, false, IsTrue, List, [], ◌∷◌, ◌++◌, map, length, All, get_or, sym, refl, ap, ◌∙◌, subst, arith, inl, inr, Some, None, sum}
+use Rattle.std.proofs.Common.{◌≡◌, ℕ, zero, suc, ◌+◌, ◌-◌, ◌*◌, ◌<◌, ◌≤◌, Bool, true, false, IsTrue, List, [], ◌∷◌, ◌++◌, map, length, All, get_or, sym, refl, ap, ◌∙◌, subst, arith, inl, inr, Some, None, sum, take}
 use Rattle.std.specs.Prelude.{if◌then◌else◌, sum_by, ◌||◌, ◌&&◌, not}
-use Rattle.std.proofs.Common.{take}
 use Rattle.std.specs.List.{flat_map, list_any}
-use Rattle.std.proofs.lemmas.List.{take_more, append-nil}
+use Rattle.std.proofs.lemmas.List.{take_more, append-nil, get_or-map, length-map}
 use Rattle.std.proofs.lemmas.List.Concat.{flat_map-append}
 use Rattle.std.proofs.lemmas.Bool.{cases_Bool, false≢true}
 use Rattle.std.proofs.lemmas.Bool.Decides.{nat_tests}
-use Rattle.std.proofs.lemmas.List.{get_or-map, length-map}
 use Rattle.std.proofs.lemmas.List.Sums.{sum_by-cons}
-use Rattle.gf_sums.specs.Sums.{total, scale, reindex}
+use Rattle.gf_sums.specs.Sums.{total, scale, reindex, IsCanonical}
 use Rattle.gf_sums.proofs.Alike.{Alike, joined, scale-alike, append-alike, reindex-alike}
 use Rattle.alb_mono.proofs.Both.{and_left, and_right}
 use Rattle.alb_mono.specs.Listing.{Each}
-use Rattle.alb_mono.specs.Tree.{Tree, leaf, node, degree, are_below, AreBelow, count, listed, type_le, cmp_monos}
-use Rattle.gf_sums.specs.Sums.{IsCanonical}
-use Rattle.alb_mono.specs.Mono.{tree}
+use Rattle.alb_mono.specs.Tree.{Tree, leaf, node, degree, are_below, AreBelow, count, listed, type_le, cmp_monos, tree}
 use Rattle.alb_mono.specs.declared.mono.Mono.{Mono}
 use Rattle.alb_mono.specs.declared.side.Side.{Side}
 use Rattle.alb_mono.specs.declared.side.Side.TheVariants.{Left, Right}
-use Rattle.alb_poly.specs.Poly.{Poly, greatest_degree, AreResidues}
-use Rattle.gf_field.specs.Primes.{IsInTable}
+use Rattle.alb_poly.specs.Poly.{Poly, greatest_degree, AreResidues, normal}
+use Rattle.gf_field.specs.Modular.{IsInTable}
 use Rattle.gf_field.proofs.Table.{IsPrime-from_table}
 use Rattle.alb_poly.specs.Terms.{terms}
 use Rattle.alb_poly.specs.declared.term.Term.{Term}
-use Rattle.alb_poly.specs.Identity.{IsAtMost}
+use Rattle.alb_poly.specs.Instance.{IsAtMost, Form, instance}
 use Rattle.alb_poly.proofs.Multilinear.{each-append, each-map, each-from}
 use Rattle.alb_poly.proofs.AtMost.{degree-at_most}
-use Rattle.alb_poly.specs.Normal.{normal}
-use Rattle.alb_poly.specs.Context.{beside}
-use Rattle.alb_poly.specs.Instance.{Form, instance}
-use Rattle.alb_poly.specs.Consequence.{form_at}
-use Rattle.alb_poly.specs.Rules.{form}
+use Rattle.alb_poly.specs.Consequence.{beside, form_at, form}
 use Rattle.alb_poly.specs.declared.rules.Linear.{Linear}
 use Rattle.alb_poly.proofs.Parts.{each_at}
 use Rattle.alb_poly.proofs.NormalLemmas.{normal-each, normal-alike, alike-normal, alike-is-normal, canonical-normal, degree-each, descending-canonical, canonical-descending, canonical-residues}
 use Rattle.alb_poly.proofs.Falling.{descending-beside}
 use Rattle.alb_linear.specs.Identity.{IsLinearized}
 use Rattle.alb_deriv.specs.Derivation.{Times, Sum, LaterLine, OutOfType, fault, line_value, is_no_place, are_within, earlier}
-use Rattle.alb_deriv.specs.Answers.{IsFit}
+use Rattle.alb_deriv.specs.Answers.{IsPolyAtMost}
 use Rattle.alb_deriv.proofs.Fits.{passes, passes-normal, pair_type, pair_at_most, instance-fit, all_below, within-degree}
 
 -- what a place that was found says
@@ -93,9 +85,9 @@ below-26 n ms l h = λ k d q. below-more n 26 (tree (get_or ms k d)) l (h k d q)
 
 -- the instance's polynomial is within the target
 pub value-fit : (p : ℕ) (target : List ℕ) (f : Form) (ms : List Mono) (g : Poly) → IsLinearized p f → length ms ≡ f.degree → All (λ m. IsTrue (are_below (length target) (tree m))) ms →
-    are_within target (map tree ms) ≡ true → g ≡ normal p (instance f (map tree ms)) → IsFit target g
+    are_within target (map tree ms) ≡ true → g ≡ normal p (instance f (map tree ms)) → IsPolyAtMost target g
 value-fit p target f ms g lin n b w e =
-    subst (IsFit target) (sym e) (normal-each _ p (instance f (map tree ms)) (instance-fit target f (map tree ms) lin.multilinear (length-map ms tree ∙ n) (all_below (length target) ms b) w))
+    subst (IsPolyAtMost target) (sym e) (normal-each _ p (instance f (map tree ms)) (instance-fit target f (map tree ms) lin.multilinear (length-map ms tree ∙ n) (all_below (length target) ms b) w))
 
 -- ---- products
 
@@ -182,14 +174,14 @@ module _ (p : ℕ) (pos : 0 < p) (target : List ℕ) (fs : List Form) where
       (joined (normal-alike p (scale c.0 f)) (scale-alike c.0 (subst (λ y. Alike p y (earlier gs c.1)) (sym v) (normal-alike p (earlier gs c.1)))))))
 
 -- sums and multiples within the target are within it
-pub sum-fit : (p : ℕ) (target : List ℕ) (c : ℕ) (sum f : Poly) → IsFit target sum → IsFit target f → IsFit target (normal p (sum ++ normal p (scale c f)))
+pub sum-fit : (p : ℕ) (target : List ℕ) (c : ℕ) (sum f : Poly) → IsPolyAtMost target sum → IsPolyAtMost target f → IsPolyAtMost target (normal p (sum ++ normal p (scale c f)))
 sum-fit p target c sum f h k =
     normal-each (IsAtMost target) p (sum ++ normal p (scale c f))
     (each-append (λ t. IsAtMost target t.1) sum (normal p (scale c f)) h
     (normal-each (IsAtMost target) p (scale c f) (each-map (λ t. IsAtMost target t.1) (λ t. IsAtMost target t.1) (λ t. (c * t.0, t.1)) f (λ t q. q) k)))
 
-pub beside-fit : (target : List ℕ) (s : Side × Tree) (f : Poly) → AreBelow (length target) s.1 → IsFit target f → list_any (λ t. passes target t.1) (reindex (beside s) f) ≡ false →
-    IsFit target (reindex (beside s) f)
+pub beside-fit : (target : List ℕ) (s : Side × Tree) (f : Poly) → AreBelow (length target) s.1 → IsPolyAtMost target f → list_any (λ t. passes target t.1) (reindex (beside s) f) ≡ false →
+    IsPolyAtMost target (reindex (beside s) f)
 beside-fit target s [] b h k = tt
 beside-fit target s (t ∷ f) b h k =
     let a = or_none _ _ k in
@@ -201,7 +193,7 @@ degree-beside (Left, x) m = omega arith
 degree-beside (Right, x) m = refl
 
 -- a product within the target has low degree
-pub beside-low : (target : List ℕ) (s : Side × Tree) (f : Poly) → sum target ≤ 12 → AreBelow (length target) s.1 → degree s.1 ≤ 64 → IsFit target f →
+pub beside-low : (target : List ℕ) (s : Side × Tree) (f : Poly) → sum target ≤ 12 → AreBelow (length target) s.1 → degree s.1 ≤ 64 → IsPolyAtMost target f →
     list_any (λ t. passes target t.1) (reindex (beside s) f) ≡ false → greatest_degree f + degree s.1 ≤ 64
 beside-low target s [] low b small h k = omega arith
 beside-low target s (t ∷ f) low b small h k =

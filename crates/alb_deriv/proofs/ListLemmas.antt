@@ -2,19 +2,17 @@
 use Rattle.std.proofs.Common.{◌≡◌, ◌<◌, ◌≤◌, ℕ, suc, ◌+◌, ◌-◌, Bool, true, false, List, [], ◌∷◌, ◌++◌, map, take, drop, length, get_or, refl, sym, ap, ◌∙◌, arith, Option, Some, None, Err, inl, inr}
 use Rattle.std.proofs.Math.ListN.{drop_of_length-le}
 use Rattle.std.proofs.Math.Seq.{drop-cons, get_or-append_seam}
-use Rattle.std.proofs.lemmas.List.{take_more, take_all, map-append, length-append, length-map, get_or-map, nil_from_length}
-use Rattle.std.proofs.lemmas.List.{length-take-le}
+use Rattle.std.proofs.lemmas.List.{take_more, take_all, map-append, length-append, length-map, get_or-map, nil_from_length, length-take-le}
 use Rattle.std.specs.Prelude.{if◌then◌else◌}
 use Rattle.std.proofs.lemmas.Bool.{cases_Bool}
-use Rattle.alb_poly.specs.Poly.{Poly, AreResidues, IsDescending}
-use Rattle.alb_poly.specs.Normal.{normal}
+use Rattle.alb_poly.specs.Poly.{Poly, AreResidues, IsDescending, normal}
 use Rattle.alb_poly.specs.Instance.{Form}
 use Rattle.alb_poly.specs.Terms.{terms, term}
 use Rattle.alb_poly.specs.declared.term.Term.{Term}
 use Rattle.alb_poly.proofs.NormalLemmas.{normal-canonical, descending-canonical}
-use Rattle.alb_deriv.specs.Derivation.{Line, Fault, BadIdentity, WrongCount, LaterLine, OutOfType, NotTheClaim, line_value, line_values, last_value, earlier, fault, first_fault, or_claim, claim_fault, same_terms}
+use Rattle.alb_deriv.specs.Derivation.{Line, DerivationFault, BadIdentity, WrongCount, LaterLine, OutOfType, NotTheClaim, line_value, line_values, last_value, earlier, fault, first_fault, or_claim, claim_fault, same_terms}
 use Rattle.alb_deriv.specs.Views.{line}
-use Rattle.alb_deriv.specs.Answers.{IsValue, Tells, error_at}
+use Rattle.alb_deriv.specs.Answers.{IsValue, TellsFault, error_at}
 use Rattle.alb_deriv.specs.declared.line.Line.{Line as Entry}
 use Rattle.alb_deriv.specs.declared.values.LineFault.{LineFault}
 use Rattle.alb_deriv.specs.declared.values.LineFault.TheVariants as faults
@@ -34,8 +32,8 @@ length-taken : (xs : List Entry) (k : ℕ) → k ≤ length xs → length (map l
 length-taken xs k l = length-map (take k xs) line ∙ length-take-le k xs l
 
 -- an error tells the fault that was found
-pub tells-at : (e : LineFault) (found : Option Fault) (k : ℕ) (whole : Option (Fault × ℕ)) (v : Poly) → IsValue (Err e) found v → ((y : Fault) → found ≡ Some y → whole ≡ Some (y, k)) →
-    Tells (error_at e k) whole
+pub tells-at : (e : LineFault) (found : Option DerivationFault) (k : ℕ) (whole : Option (DerivationFault × ℕ)) (v : Poly) → IsValue (Err e) found v → ((y : DerivationFault) → found ≡ Some y → whole ≡ Some (y, k)) →
+    TellsFault (error_at e k) whole
 tells-at faults.BadIdentity found k whole v h w = w BadIdentity h
 tells-at faults.WrongCount found k whole v h w = w WrongCount h
 tells-at faults.LaterLine found k whole v h w = w LaterLine h
@@ -46,14 +44,14 @@ module _ (p : ℕ) (target : List ℕ) (fs : List Form) where
   length-before : (xs : List Entry) (k : ℕ) → k ≤ length xs → length (line_values fs [] (map line (take k xs))) ≡ k
   length-before xs k l = omega (arith, length-values fs [] (map line (take k xs)), length-taken xs k l)
 
-  pub fault-here : (xs : List Entry) (k : ℕ) (x : Entry) (whole : Option (Fault × ℕ)) → k < length xs → x ≡ get_or xs k x →
+  pub fault-here : (xs : List Entry) (k : ℕ) (x : Entry) (whole : Option (DerivationFault × ℕ)) → k < length xs → x ≡ get_or xs k x →
       first_fault p target fs (line_values fs [] (map line (take k xs))) (map line (drop k xs)) ≡ whole →
-      (y : Fault) → fault p target fs (line_values fs [] (map line (take k xs))) (line x) ≡ Some y → whole ≡ Some (y, k + 1)
+      (y : DerivationFault) → fault p target fs (line_values fs [] (map line (take k xs))) (line x) ≡ Some y → whole ≡ Some (y, k + 1)
   fault-here xs k x whole l e f y h =
       let G = line_values fs [] (map line (take k xs)) in
       sym f ∙ ap (first_fault p target fs G) (drop-line xs k x l e) ∙ rw h (ap (λ n. Some (y, n + 1)) (length-before xs k (omega arith)))
 
-  pub found-more : (xs : List Entry) (k : ℕ) (x : Entry) (whole : Option (Fault × ℕ)) → k < length xs → x ≡ get_or xs k x →
+  pub found-more : (xs : List Entry) (k : ℕ) (x : Entry) (whole : Option (DerivationFault × ℕ)) → k < length xs → x ≡ get_or xs k x →
       first_fault p target fs (line_values fs [] (map line (take k xs))) (map line (drop k xs)) ≡ whole → fault p target fs (line_values fs [] (map line (take k xs))) (line x) ≡ None →
       first_fault p target fs (line_values fs [] (map line (take (k + 1) xs))) (map line (drop (k + 1) xs)) ≡ whole
   found-more xs k x whole l e f h =
@@ -70,7 +68,7 @@ module _ (p : ℕ) (target : List ℕ) (fs : List Form) where
       (λ i. h i ++ w i ∷ []) ∙ sym (map-append (normal p) G (line_value fs G (line x) ∷ []))
       ∙ ap (map (normal p)) (sym (ap (line_values fs []) (take-line xs k x l e) ∙ values-append fs [] (map line (take k xs)) (line x ∷ [])))
 
-  pub found-all : (xs : List Entry) (k : ℕ) (whole : Option (Fault × ℕ)) → length xs ≤ k →
+  pub found-all : (xs : List Entry) (k : ℕ) (whole : Option (DerivationFault × ℕ)) → length xs ≤ k →
       first_fault p target fs (line_values fs [] (map line (take k xs))) (map line (drop k xs)) ≡ whole → whole ≡ None
   found-all xs k whole l f = sym f ∙ ap (λ ys. first_fault p target fs (line_values fs [] (map line (take k xs))) (map line ys)) (drop_of_length-le xs l)
 

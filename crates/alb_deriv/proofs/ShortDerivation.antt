@@ -11,9 +11,8 @@ use Rattle.gf_sums.proofs.Alike.{append-alike, scale-alike}
 use Rattle.alb_mono.specs.Tree.{type_of, type_le, same_tree}
 use Rattle.alb_mono.specs.Listing.{Each}
 use Rattle.alb_poly.specs.Poly.{Poly, IsSamePoly}
-use Rattle.alb_poly.specs.Instance.{Form}
+use Rattle.alb_poly.specs.Instance.{Form, IsWithin}
 use Rattle.alb_poly.specs.Consequence.{form_at, IsConsequence, AreMultilinear}
-use Rattle.alb_poly.specs.Identity.{IsWithin}
 use Rattle.alb_poly.proofs.Consequence.{poly_alike, alike_poly}
 use Rattle.alb_deriv.specs.Derivation.{Line, Instance, Times, Sum, earlier, line_value, line_values, last_value, fault, AreSound, IsDerivation, IsLineBelow, is_no_place, passes_target}
 use Rattle.alb_deriv.specs.Short.{AreFine, value_of, IsLineOf, IsSumOf, IsShortDerivation, HasShortDerivation}

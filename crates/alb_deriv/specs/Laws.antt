@@ -1,14 +1,12 @@
 -- The laws of derivations.
 use Rattle.std.specs.Prelude.{◌≡◌, ◌<◌, ◌≤◌, ◌^◌, ◌↔◌, ℕ, List, [], None, length, sum}
-use Rattle.gf_field.specs.Primes.{IsPrime}
+use Rattle.gf_field.specs.Modular.{IsPrime}
 use Rattle.alb_mono.specs.Listing.{Each}
 use Rattle.alb_poly.specs.Poly.{Poly}
-use Rattle.alb_poly.specs.Instance.{Form}
-use Rattle.alb_poly.specs.Identity.{IsWithin}
+use Rattle.alb_poly.specs.Instance.{Form, IsWithin}
 use Rattle.alb_poly.specs.Consequence.{IsConsequence, AreMultilinear}
-use Rattle.alb_deriv.specs.Derivation.{Line, line_values, AreSound, IsDerivation, claim_fault}
+use Rattle.alb_deriv.specs.Derivation.{Line, line_values, AreSound, IsDerivation, claim_fault, HasLimitedDerivation}
 use Rattle.alb_deriv.specs.Short.{HasShortDerivation}
-use Rattle.alb_deriv.specs.Limits.{HasLimitedDerivation}
 
 -- the polynomial of each line is a consequence, where no line has a fault
 abbrev pub LinesAreConsequences : Type 0

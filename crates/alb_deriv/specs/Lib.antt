@@ -1,6 +1,5 @@
-pub mod Derivation
 pub mod Views
 pub mod Answers
 pub mod Short
-pub mod Limits
+pub mod Derivation
 pub mod Laws

@@ -1,7 +1,6 @@
 -- What contracts see of the lines of a derivation.
 use Rattle.std.specs.Prelude.{ℕ, ◌<◌, ◌≤◌, IsTrue, map, All}
-use Rattle.alb_mono.specs.Tree.{degree, are_below}
-use Rattle.alb_mono.specs.Mono.{tree}
+use Rattle.alb_mono.specs.Tree.{degree, are_below, tree}
 use Rattle.alb_deriv.specs.Derivation as value
 use Rattle.alb_deriv.specs.declared.line.Line.{Line}
 use Rattle.alb_deriv.specs.declared.line.Line.TheVariants.{Instance, Times, Sum}

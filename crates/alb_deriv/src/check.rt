@@ -1,12 +1,10 @@
 ghost use Rattle.std.specs.Prelude.{[], ◌≡◌, ◌<◌, ◌≤◌, ◌^◌, All, IfOk, OnOk, None, Err, length, map, IsErrOf};
-ghost use Rattle.alb_poly.specs.Poly.{AreResidues, IsSamePoly};
-ghost use Rattle.alb_poly.specs.Normal.{normal};
-ghost use Rattle.alb_poly.specs.Rules.{forms};
-ghost use Rattle.alb_poly.specs.Consequence.{IsConsequence};
+ghost use Rattle.alb_poly.specs.Poly.{AreResidues, IsSamePoly, normal};
+ghost use Rattle.alb_poly.specs.Consequence.{forms, IsConsequence};
 ghost use Rattle.alb_poly.specs.Terms.{terms};
 ghost use Rattle.alb_deriv.specs.Derivation.{same_terms, first_fault, claim_fault, last_value, IsDerivation};
 ghost use Rattle.alb_deriv.specs.Views.{line, IsLine};
-ghost use Rattle.alb_deriv.specs.Answers.{AreRules, Answers, Judges};
+ghost use Rattle.alb_deriv.specs.Answers.{AreDerivationRules, DerivationAnswers, ClaimAnswers};
 
 use crate::values::value_of;
 use crate::{DerivError, Line};
@@ -16,9 +14,9 @@ use std::alloc::Global;
 /// The polynomial of the last line of a derivation, zero where there is no line; or the first faulty line, counted from
 /// 1, by its first fault.
 pub fn check_lines(alloc: Global, rules: &Rules, lines: &[Line]) -> Result<Poly, DerivError>
-    requires rules { AreRules rules.now.field rules.now.target (forms rules.now) }
+    requires rules { AreDerivationRules rules.now.field rules.now.target (forms rules.now) }
     requires lines { All (λ l. IsLine rules.now.field (length rules.now.target) l) lines.now }
-    ensures exact { Answers result (first_fault rules.now.field rules.now.target (forms rules.now) [] (map line lines.now))
+    ensures exact { DerivationAnswers result (first_fault rules.now.field rules.now.target (forms rules.now) [] (map line lines.now))
         (normal rules.now.field (last_value (forms rules.now) (map line lines.now))) }
     ensures residues { IfOk result (λ g. AreResidues rules.now.field g) }
 {
@@ -57,10 +55,10 @@ fn are_same(f: &[Term], g: &[Term]) -> bool
 /// Whether the lines are a derivation of the polynomial; otherwise the first faulty line, or that they derive another
 /// polynomial. What has a derivation is a consequence of the rules.
 pub fn check_claim(alloc: Global, rules: &Rules, lines: &[Line], g: &Poly) -> Result<(), DerivError>
-    requires rules { AreRules rules.now.field rules.now.target (forms rules.now) }
+    requires rules { AreDerivationRules rules.now.field rules.now.target (forms rules.now) }
     requires lines { All (λ l. IsLine rules.now.field (length rules.now.target) l) lines.now }
     requires residues { AreResidues rules.now.field g.now }
-    ensures exact { Judges result (claim_fault rules.now.field rules.now.target (forms rules.now) g.now (map line lines.now)) }
+    ensures exact { ClaimAnswers result (claim_fault rules.now.field rules.now.target (forms rules.now) g.now (map line lines.now)) }
     ensures derivation { OnOk result (IsDerivation rules.now.field rules.now.target (forms rules.now) g.now (map line lines.now)) }
     ensures consequence { OnOk result (IsConsequence rules.now.field (forms rules.now) g.now) }
 {

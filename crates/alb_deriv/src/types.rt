@@ -1,7 +1,6 @@
 ghost use Rattle.std.specs.Prelude.{◌≡◌, ◌+◌, ◌*◌, ◌<◌, ◌≤◌, ◌^◌, All, length, map};
 ghost use Rattle.gf_sums.specs.Sums.{total};
-ghost use Rattle.alb_mono.specs.Mono.{tree};
-ghost use Rattle.alb_mono.specs.Tree.{degree, count, type_le, listed};
+ghost use Rattle.alb_mono.specs.Tree.{tree, degree, count, type_le, listed};
 ghost use Rattle.alb_deriv.specs.Derivation.{are_within};
 
 use alb_mono::{Mono, Multi};

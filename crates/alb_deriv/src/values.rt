@@ -1,15 +1,12 @@
 ghost use Rattle.std.specs.Prelude.{false, ◌≡◌, ◌-◌, ◌+◌, ◌<◌, ◌≤◌, ◌^◌, ℕ, List, All, IfOk, IsTrue, Some, None, length, map, not, if◌then◌else◌};
 ghost use Rattle.std.specs.List.{list_any};
 ghost use Rattle.gf_sums.specs.Sums.{reindex, scale};
-ghost use Rattle.alb_mono.specs.Mono.{tree};
-ghost use Rattle.alb_mono.specs.Tree.{Tree, degree, are_below, type_le, type_of};
-ghost use Rattle.alb_poly.specs.Poly.{Poly, AreResidues};
-ghost use Rattle.alb_poly.specs.Normal.{normal};
-ghost use Rattle.alb_poly.specs.Context.{beside};
-ghost use Rattle.alb_poly.specs.Rules.{form, forms};
+ghost use Rattle.alb_mono.specs.Tree.{tree, Tree, degree, are_below, type_le, type_of};
+ghost use Rattle.alb_poly.specs.Poly.{Poly, AreResidues, normal};
+ghost use Rattle.alb_poly.specs.Consequence.{beside, form, forms};
 ghost use Rattle.alb_deriv.specs.Derivation.{fault, line_value, is_no_place, earlier, Instance, Times, Sum};
 ghost use Rattle.alb_deriv.specs.Views.{line, IsLine};
-ghost use Rattle.alb_deriv.specs.Answers.{AreRules, IsFit, IsValue, error_at};
+ghost use Rattle.alb_deriv.specs.Answers.{AreDerivationRules, IsPolyAtMost, IsValue, error_at};
 
 use crate::types::{are_within, is_pair_within};
 use crate::{DerivError, Line};
@@ -58,12 +55,12 @@ fn place(n: usize, k: u64) -> Option<usize>
 
 // The instance of an identity at monomials.
 fn instance_value(alloc: Global, rules: &Rules, i: u64, ms: &[Mono]) -> Result<Poly, LineFault>
-    requires rules { AreRules rules.now.field rules.now.target (forms rules.now) }
+    requires rules { AreDerivationRules rules.now.field rules.now.target (forms rules.now) }
     requires known { All (λ m. IsTrue (are_below (length rules.now.target) (tree m))) ms.now }
     requires small { All (λ m. degree (tree m) ≤ 64) ms.now }
     ensures value { (gs : List Poly) → IsValue result (fault rules.now.field rules.now.target (forms rules.now) gs (Instance i (map tree ms.now)))
         (normal rules.now.field (line_value (forms rules.now) gs (Instance i (map tree ms.now)))) }
-    ensures fit { IfOk result (λ g. IsFit rules.now.target g) }
+    ensures fit { IfOk result (λ g. IsPolyAtMost rules.now.target g) }
     ensures residues { IfOk result (λ g. AreResidues rules.now.field g) }
 {
     let Some(k) = place(rules.linears.len(), i) else {
@@ -106,15 +103,15 @@ fn times_value(
     side: Side,
     m: &Mono,
 ) -> Result<Poly, LineFault>
-    requires rules { AreRules rules.now.field rules.now.target (forms rules.now) }
+    requires rules { AreDerivationRules rules.now.field rules.now.target (forms rules.now) }
     requires known { IsTrue (are_below (length rules.now.target) (tree m.now)) }
     requires small { degree (tree m.now) ≤ 64 }
-    requires fit { All (λ g. IsFit rules.now.target g) values.now }
+    requires fit { All (λ g. IsPolyAtMost rules.now.target g) values.now }
     requires residues { All (λ g. AreResidues rules.now.field g) values.now }
     ensures value { (gs : List Poly) → values.now ≡ map (normal rules.now.field) gs
         → IsValue result (fault rules.now.field rules.now.target (forms rules.now) gs (Times k (side, tree m.now)))
         (normal rules.now.field (line_value (forms rules.now) gs (Times k (side, tree m.now)))) }
-    ensures fit { IfOk result (λ g. IsFit rules.now.target g) }
+    ensures fit { IfOk result (λ g. IsPolyAtMost rules.now.target g) }
     ensures residues { IfOk result (λ g. AreResidues rules.now.field g) }
 {
     let Some(at) = place(values.len(), k) else {
@@ -144,14 +141,14 @@ fn sum_value(
     values: &[Poly],
     items: &[(Residue, u64)],
 ) -> Result<Poly, LineFault>
-    requires rules { AreRules rules.now.field rules.now.target (forms rules.now) }
+    requires rules { AreDerivationRules rules.now.field rules.now.target (forms rules.now) }
     requires coefficients { All (λ c. c.0 < rules.now.field) items.now }
-    requires fit { All (λ g. IsFit rules.now.target g) values.now }
+    requires fit { All (λ g. IsPolyAtMost rules.now.target g) values.now }
     requires residues { All (λ g. AreResidues rules.now.field g) values.now }
     ensures value { (gs : List Poly) → values.now ≡ map (normal rules.now.field) gs
         → IsValue result (fault rules.now.field rules.now.target (forms rules.now) gs (Sum items.now))
         (normal rules.now.field (line_value (forms rules.now) gs (Sum items.now))) }
-    ensures fit { IfOk result (λ g. IsFit rules.now.target g) }
+    ensures fit { IfOk result (λ g. IsPolyAtMost rules.now.target g) }
     ensures residues { IfOk result (λ g. AreResidues rules.now.field g) }
 {
     if is_later(values.len(), items) {
@@ -173,11 +170,11 @@ fn add_up(
     requires prime { 0 < rules.now.field }
     requires places { list_any (λ c. is_no_place (length values.now) c.1) items.now ≡ false }
     requires coefficients { All (λ c. c.0 < rules.now.field) items.now }
-    requires fit { All (λ g. IsFit rules.now.target g) values.now }
+    requires fit { All (λ g. IsPolyAtMost rules.now.target g) values.now }
     requires residues { All (λ g. AreResidues rules.now.field g) values.now }
     ensures value { IfOk result (λ g. (gs : List Poly) → values.now ≡ map (normal rules.now.field) gs
         → g ≡ normal rules.now.field (line_value (forms rules.now) gs (Sum items.now))) }
-    ensures fit { IfOk result (λ g. IsFit rules.now.target g) }
+    ensures fit { IfOk result (λ g. IsPolyAtMost rules.now.target g) }
     ensures residues { IfOk result (λ g. AreResidues rules.now.field g) }
 {
     let mut sum = Poly::zero(alloc);
@@ -198,14 +195,14 @@ pub fn value_of(
     values: &[Poly],
     entry: &Line,
 ) -> Result<Poly, LineFault>
-    requires rules { AreRules rules.now.field rules.now.target (forms rules.now) }
+    requires rules { AreDerivationRules rules.now.field rules.now.target (forms rules.now) }
     requires line { IsLine rules.now.field (length rules.now.target) entry.now }
-    requires fit { All (λ g. IsFit rules.now.target g) values.now }
+    requires fit { All (λ g. IsPolyAtMost rules.now.target g) values.now }
     requires residues { All (λ g. AreResidues rules.now.field g) values.now }
     ensures value { (gs : List Poly) → values.now ≡ map (normal rules.now.field) gs
         → IsValue result (fault rules.now.field rules.now.target (forms rules.now) gs (line entry.now))
         (normal rules.now.field (line_value (forms rules.now) gs (line entry.now))) }
-    ensures fit { IfOk result (λ g. IsFit rules.now.target g) }
+    ensures fit { IfOk result (λ g. IsPolyAtMost rules.now.target g) }
     ensures residues { IfOk result (λ g. AreResidues rules.now.field g) }
 {
     match entry {

@@ -2,8 +2,7 @@
 use Rattle.std.proofs.Common.{◌≡◌, ℕ, ◌+◌, ◌<◌, ◌≤◌, Bool, true, false, List, ◌∷◌, length, Result, Ok, Err, refl, sym, ap, subst, ◌∙◌, arith}
 use Rattle.std.specs.Prelude.{nat_le, nat_lt}
 use Rattle.std.proofs.lemmas.Bool.Decides.{nat_tests}
-use Rattle.alb_evidence.specs.Words.{words}
-use Rattle.alb_evidence.specs.Block.{Code, ABadLine, ABadNumber, BadLine, Said, say, say_line, is_skipped, are_skipped, evidence_from, go_on}
+use Rattle.alb_evidence.specs.Block.{words, Code, ABadLine, ABadNumber, BadLine, Said, say, say_line, is_skipped, are_skipped, evidence_from, go_on}
 use Rattle.alb_evidence.specs.Gives.{Fails}
 use Rattle.alb_evidence.specs.Said.{said, error_at, Takes}
 use Rattle.alb_evidence.specs.declared.block.Block.{Block}

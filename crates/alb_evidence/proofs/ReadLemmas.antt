@@ -6,7 +6,7 @@ use Rattle.std.proofs.lemmas.List.{length-append}
 use Rattle.alb_io.specs.Reader.{Reader, Reads}
 use Rattle.alb_io.specs.declared.step.LineStep.{LineStep}
 use Rattle.alb_io.specs.declared.step.LineStep.TheVariants as step
-use Rattle.alb_evidence.specs.Words.{words, is_end, are_end}
+use Rattle.alb_evidence.specs.Block.{words, is_end, are_end}
 use Rattle.alb_evidence.specs.Reads.{ReadsLine, ReadsLines, HasNoEnd, ReadsBlock, Closes, Breaks}
 use Rattle.alb_evidence.specs.Inside.{IsLineInside}
 

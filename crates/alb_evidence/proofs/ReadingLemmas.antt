@@ -3,7 +3,7 @@ use Rattle.std.proofs.Common.{◌≡◌, ℕ, Bool, true, false, List, [], ◌�
 use Rattle.std.proofs.lemmas.List.{append-nil}
 use Rattle.alb_io.specs.Reader.{Reader, Reads}
 use Rattle.alb_io.specs.declared.step.LineStep.TheVariants as step
-use Rattle.alb_evidence.specs.Block.{Fault, BadLine, BadNumber, closed, evidence_from, evidence_of}
+use Rattle.alb_evidence.specs.Block.{BlockFault, BadLine, BadNumber, closed, evidence_from, evidence_of}
 use Rattle.alb_evidence.specs.Reads.{ReadsAs, Closes}
 use Rattle.alb_evidence.specs.Inside.{IsLineInside, SkipsAfter}
 use Rattle.alb_evidence.specs.Said.{said, says, Takes, Closing}
@@ -68,7 +68,7 @@ module _ (p : ℕ) (letters : List ℕ) (block : Block) (old mid new : Reader) (
     inside : ReadsInside (so_far.lines ++ t.line ∷ []) old new before now
     inside = ReadsInside-more so_far.lines t.line old mid new before between now so_far.inside t.reads t.no_end
 
-    faulty : (fault : Fault) (more : List (List ℕ)) (has_end : Bool) → ((lines : List (List ℕ)) (b : Bool) → says p letters block (t.line ∷ lines) b ≡ Err fault)
+    faulty : (fault : BlockFault) (more : List (List ℕ)) (has_end : Bool) → ((lines : List (List ℕ)) (b : Bool) → says p letters block (t.line ∷ lines) b ≡ Err fault)
         → evidence_of p letters ((so_far.lines ++ t.line ∷ []) ++ more) has_end ≡ Err fault
     faulty fault more has_end takes = ap (λ ls. evidence_of p letters ls has_end) (append_assoc so_far.lines (t.line ∷ []) more) ∙ so_far.says (t.line ∷ more) has_end ∙ takes more has_end
 

@@ -7,13 +7,12 @@ use Rattle.alb_mono.specs.Tree.{Tree, leaf, node, degree}
 use Rattle.alb_mono.specs.declared.side.Side.{Side}
 use Rattle.alb_mono.specs.declared.side.Side.TheVariants.{Left, Right}
 use Rattle.alb_print.specs.Text.{mono_text, named}
-use Rattle.alb_deriv.specs.Derivation.{Line, Instance, Times, Sum}
-use Rattle.alb_deriv.specs.Limits.{AreMonos, AreItems, IsLimited}
-use Rattle.alb_check.specs.Limits.{IsTableFit}
+use Rattle.alb_deriv.specs.Derivation.{Line, Instance, Times, Sum, AreMonos, AreSumItems, IsLimited}
+use Rattle.alb_check.specs.Raw.{IsTableFit}
 use Rattle.alb_deriv.proofs.Judged.{derivation-no_fault}
 use Rattle.alb_evidence.specs.Block.{Zero, NotZero}
-use Rattle.alb_evidence.specs.Laws.{LimitedLinesFit, ProofsAreAccepted}
-use Rattle.alb_evidence.specs.Limits.{IsFit, AreFit}
+use Rattle.alb_evidence.specs.Laws.{LimitedLinesFit, EvidenceIsReadBack}
+use Rattle.alb_evidence.specs.Limits.{IsLineFit, AreLinesFit}
 use Rattle.alb_evidence.specs.Texts.{spaced_mono, side_text, signed_text, item_text, kind_text, line_text}
 use Rattle.alb_evidence.proofs.Written.{decimal-numeral, signed-is}
 use Rattle.alb_evidence.proofs.WrittenBlock.{derivations-read_back}
@@ -45,7 +44,7 @@ item-length : (p : ℕ) (c : ℕ × ℕ) → p < 2 ^ 16 → c.0 < p → c.1 < 10
 item-length p c small h k =
     omega (arith, length-append (signed_text p c.0) (named (codes "*") c.1), (signed-is p c.0 h small).short, decimal-length c.1 k)
 
-items-length : (p : ℕ) (cs : List (ℕ × ℕ)) → p < 2 ^ 16 → AreItems p cs → length (flat_map (item_text p) cs) ≤ 40 * length cs
+items-length : (p : ℕ) (cs : List (ℕ × ℕ)) → p < 2 ^ 16 → AreSumItems p cs → length (flat_map (item_text p) cs) ≤ 40 * length cs
 items-length p [] small h = omega arith
 items-length p (c ∷ cs) small h =
     omega (arith, length-append (item_text p c) (flat_map (item_text p) cs), item-length p c small h.0 h.1, items-length p cs small h.2)
@@ -79,12 +78,12 @@ line-length p letters n k l small b h =
       kind-length p letters n l small h,
     )
 
-limited-fit : (p n : ℕ) (l : Line) → IsLimited p n l → IsFit p n l
+limited-fit : (p n : ℕ) (l : Line) → IsLimited p n l → IsLineFit p n l
 limited-fit p n (Instance i ms) h = (h.0, h.1)
 limited-fit p n (Times k m) h = h
 limited-fit p n (Sum cs) h = h.0
 
-fit-from : (p : ℕ) (letters : List ℕ) (k : ℕ) (ls : List Line) → p < 2 ^ 16 → k + length ls ≤ 10 ^ 18 → Each (IsLimited p (length letters)) ls → AreFit p letters k ls
+fit-from : (p : ℕ) (letters : List ℕ) (k : ℕ) (ls : List Line) → p < 2 ^ 16 → k + length ls ≤ 10 ^ 18 → Each (IsLimited p (length letters)) ls → AreLinesFit p letters k ls
 fit-from p letters k [] small b h = tt
 fit-from p letters k (l ∷ ls) small b h =
     let low : k < 10 ^ 18 = omega arith in
@@ -93,9 +92,9 @@ fit-from p letters k (l ∷ ls) small b h =
 pub limited-lines_fit : LimitedLinesFit
 limited-lines_fit p letters ls small few h = fit-from p letters 1 ls small (omega arith) h
 
-pub proofs-accepted : ProofsAreAccepted
+pub proofs-accepted : EvidenceIsReadBack
 proofs-accepted p letters target fs g (Zero ls) above small are some few same h =
-    let fit : AreFit p letters 1 ls = limited-lines_fit p letters ls small h.few (subst (λ n. Each (IsLimited p n) ls) (sym same) h.limited) in
+    let fit : AreLinesFit p letters 1 ls = limited-lines_fit p letters ls small h.few (subst (λ n. Each (IsLimited p n) ls) (sym same) h.limited) in
     record { limits = fit; back = derivations-read_back p letters ls above small are fit; accepted = derivation-no_fault p target fs g ls (omega arith) h.derives }
 proofs-accepted p letters target fs g (NotZero t) above small are some few same h =
     let fit : IsTableFit p (length letters) t = subst (λ n. IsTableFit p n t) (sym same) h.0 in

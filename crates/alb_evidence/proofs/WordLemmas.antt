@@ -3,10 +3,9 @@ use Rattle.std.proofs.Common.{◌≡◌, ℕ, zero, suc, ◌+◌, ◌<◌, ◌�
 use Rattle.std.specs.List.{list_all}
 use Rattle.std.proofs.Math.ListN.{drop_of_length-le}
 use Rattle.std.proofs.lemmas.List.{drop_more}
-use Rattle.std.proofs.lemmas.Bool.{cases_lt}
-use Rattle.std.proofs.lemmas.Bool.{false≢true}
+use Rattle.std.proofs.lemmas.Bool.{cases_lt, false≢true}
 use Rattle.alb_lex.specs.Lexing.{is_blank, value_after}
-use Rattle.alb_evidence.specs.Words.{words, ends_word, cut}
+use Rattle.alb_evidence.specs.Block.{words, ends_word, cut}
 use Rattle.alb_mono.proofs.Both.{both_tests}
 
 pub word_one : (b : ℕ) (bs : List ℕ) → is_blank b ≡ false → ends_word bs ≡ true → words (b ∷ bs) ≡ (b ∷ []) ∷ words bs

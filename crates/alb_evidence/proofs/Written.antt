@@ -1,22 +1,19 @@
 -- The words of a written line, and how each is read.
-use Rattle.std.proofs.Common.{◌≡◌, ℕ, zero, suc, ◌+◌, ◌-◌, ◌*◌, ◌%◌, ◌^◌, ◌<◌, ◌≤◌, Bool, true, false, not, List, [], ◌∷◌, ◌++◌, length, take, drop, get_or, codes, Some, Ok, refl, sym, ap, ◌∙◌, arith, length-append}
+use Rattle.std.proofs.Common.{◌≡◌, ℕ, zero, suc, ◌+◌, ◌-◌, ◌*◌, ◌%◌, ◌^◌, ◌<◌, ◌≤◌, Bool, true, false, not, List, [], ◌∷◌, ◌++◌, length, take, drop, get_or, codes, Some, Ok, refl, sym, ap, ◌∙◌, arith, length-append, rules}
 use Rattle.std.specs.Prelude.{◌&&◌, ◌==◌, if◌then◌else◌, nat_lt, position}
-use Rattle.std.specs.List.{list_all}
+use Rattle.std.specs.List.{list_all, position_or_len}
 use Rattle.std.specs.Char.{is_ascii_digit}
 use Rattle.std.specs.Fmt.{decimal}
 use Rattle.std.proofs.lemmas.Bool.{false≢true}
 use Rattle.std.proofs.lemmas.Bool.Decides.{nat_tests}
 use Rattle.std.proofs.lemmas.List.{append-nil}
 use Rattle.std.proofs.lemmas.List.Sums.{position_or_len_is}
-use Rattle.std.specs.List.{position_or_len}
 use Rattle.std.proofs.Math.Nat.{mod-eq_of_lt}
 use Rattle.std.proofs.lemmas.Str.Parse.{IsNumeralModel, numerals_by_fold}
 use Rattle.std.proofs.lemmas.Fmt.{digits_decimal, digits_value-decimal, length-decimal-le, decimal_nonempty}
-use Rattle.std.proofs.Common.{rules}
 use Rattle.alb_lex.specs.Lexing.{is_blank, value_after}
 use Rattle.alb_lex.proofs.Steps.{value-digit}
-use Rattle.alb_evidence.specs.Words.{words}
-use Rattle.alb_evidence.specs.Block.{digits, number, coefficient, item, is_comment}
+use Rattle.alb_evidence.specs.Block.{words, digits, number, signed_number, item, is_comment}
 use Rattle.alb_evidence.specs.Texts.{signed_text}
 use Rattle.alb_evidence.proofs.WordLemmas.{word_one, word_more, word_blank, no_word}
 use Rattle.alb_mono.proofs.Both.{both_tests, both_true}
@@ -153,12 +150,12 @@ residue-back p c h k =
     let two : p - (p - c) ≡ c = omega arith in
     ap (λ x. (p - x) % p) one ∙ ap (λ x. x % p) two ∙ mod-eq_of_lt h
 
-negative-read : (p c : ℕ) (ds : List ℕ) → c < p → p < 2 * c → IsNumeral ds (p - c) → coefficient p (45 ∷ ds) ≡ Ok c
-unfolding coefficient
+negative-read : (p c : ℕ) (ds : List ℕ) → c < p → p < 2 * c → IsNumeral ds (p - c) → signed_number p (45 ∷ ds) ≡ Ok c
+unfolding signed_number
 negative-read p c ds h k n = rw (digits-read ds (p - c) n) (ap (λ (x : ℕ). Ok x) (residue-back p c h k))
 
-positive-read : (p c : ℕ) (ds : List ℕ) → c < p → IsNumeral ds c → coefficient p ds ≡ Ok c
-unfolding coefficient
+positive-read : (p c : ℕ) (ds : List ℕ) → c < p → IsNumeral ds c → signed_number p ds ≡ Ok c
+unfolding signed_number
 positive-read p c [] h n = absurd (omega (arith, n.some))
 positive-read p c (d ∷ ds) h n = rw (not_negative d (both_tests _ _ n.digits).0, digits-read (d ∷ ds) c n) (ap (λ (x : ℕ). Ok x) (mod-eq_of_lt h))
 
@@ -179,7 +176,7 @@ digits-no_star (c ∷ cs) h = both_true (not (c == 42)) (has_no_star cs) (digit-
 
 -- a written coefficient
 pub record IsSigned (p c : ℕ) (text : List ℕ) : Type 0 where
-  pub read : coefficient p text ≡ Ok c
+  pub read : signed_number p text ≡ Ok c
   pub word : IsWord text
   pub no_star : has_no_star text ≡ true
   pub short : length text ≤ 19

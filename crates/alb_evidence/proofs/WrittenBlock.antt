@@ -5,17 +5,16 @@ use Rattle.std.specs.Fmt.{decimal}
 use Rattle.std.proofs.lemmas.Bool.{false≢true}
 use Rattle.std.proofs.lemmas.Bool.Decides.{nat_tests}
 use Rattle.std.proofs.lemmas.List.{append-nil}
-use Rattle.alb_io.specs.Lines.{HasNoFeed, lines_of, onto_first}
+use Rattle.alb_io.specs.Reader.{HasNoFeed, lines_of, onto_first}
 use Rattle.alb_io.proofs.LineLemmas.{HasNoFeed-append}
 use Rattle.alb_mono.proofs.Both.{both_tests}
-use Rattle.alb_mono.specs.Letters.{AreLetters}
+use Rattle.alb_mono.specs.Tree.{AreLetters}
 use Rattle.alb_deriv.specs.Derivation.{Line}
-use Rattle.alb_evidence.specs.Words.{words, is_end, are_end}
-use Rattle.alb_evidence.specs.Block.{Zero, Nothing, Derivation, evidence_from, line_of, say, heading_of, block_of, are_skipped}
+use Rattle.alb_evidence.specs.Block.{words, is_end, are_end, Zero, Nothing, Derivation, evidence_from, line_from, say, heading_of, block_of, are_skipped}
 use Rattle.alb_evidence.specs.Reads.{HasNoEnd}
 use Rattle.alb_evidence.specs.Accepted.{ReadsBack}
 use Rattle.alb_evidence.specs.Laws.{DerivationsReadBack}
-use Rattle.alb_evidence.specs.Limits.{IsFit, AreFit}
+use Rattle.alb_evidence.specs.Limits.{IsLineFit, AreLinesFit}
 use Rattle.alb_evidence.specs.Texts.{counted, kind_text, line_text, lines_text}
 use Rattle.alb_evidence.proofs.BlockLemmas.{says-next}
 use Rattle.alb_evidence.proofs.Written.{AreWords, numeral-no_comment, spaced, are_plain, is_plain, decimal-numeral, numeral-word}
@@ -34,7 +33,7 @@ pub spaced-no_feed : (ws : List (List ℕ)) → AreWords ws → HasNoFeed (space
 spaced-no_feed [] h = tt
 spaced-no_feed (w ∷ ws) h = ((λ e. absurd (omega arith)), HasNoFeed-append w (spaced ws) (plain-no_feed w h.0.plain) (spaced-no_feed ws h.1))
 
-bytes-no_feed : (p : ℕ) (letters : List ℕ) (k : ℕ) (l : Line) → p < 2 ^ 16 → AreLetters letters → k < 10 ^ 18 → IsFit p (length letters) l → HasNoFeed (line_bytes p letters k l)
+bytes-no_feed : (p : ℕ) (letters : List ℕ) (k : ℕ) (l : Line) → p < 2 ^ 16 → AreLetters letters → k < 10 ^ 18 → IsLineFit p (length letters) l → HasNoFeed (line_bytes p letters k l)
 bytes-no_feed p letters k l small are h fit =
     HasNoFeed-append (decimal k) (kind_text p letters l) (plain-no_feed (decimal k) (numeral-word (decimal k) k (decimal-numeral k h)).plain)
     (subst HasNoFeed (sym (kind-spaced p letters l)) (spaced-no_feed (head l ∷ tail p letters l) (kind-words p letters l small are fit)))
@@ -70,7 +69,7 @@ line-feed : (p : ℕ) (letters : List ℕ) (k : ℕ) (l : Line) → line_text p 
 line-feed p letters k l = sym (append_assoc (decimal k) (kind_text p letters l) (10 ∷ []))
 
 module _ (p : ℕ) (letters : List ℕ) (small : p < 2 ^ 16) (are : AreLetters letters) where
-  cuts : (k : ℕ) (ls : List Line) → AreFit p letters k ls → lines_of (counted (line_text p letters) k ls ++ codes "end\n") ≡ written p letters k ls ++ codes "end" ∷ []
+  cuts : (k : ℕ) (ls : List Line) → AreLinesFit p letters k ls → lines_of (counted (line_text p letters) k ls ++ codes "end\n") ≡ written p letters k ls ++ codes "end" ∷ []
   cuts k [] fit = ap (λ xs. lines_of (xs ++ codes "end\n")) (counted-nil (line_text p letters) k)
   cuts k (l ∷ ls) fit =
       let rest = counted (line_text p letters) (k + 1) ls in
@@ -80,13 +79,13 @@ module _ (p : ℕ) (letters : List ℕ) (small : p < 2 ^ 16) (are : AreLetters l
       ∙ append_assoc line (10 ∷ rest) (codes "end\n") in
       ap lines_of first ∙ line-first line (rest ++ codes "end\n") (bytes-no_feed p letters k l small are fit.0 fit.1) ∙ ap (λ xs. line ∷ xs) (cuts (k + 1) ls fit.3)
 
-  no_end : (k : ℕ) (ls : List Line) → AreFit p letters k ls → HasNoEnd (written p letters k ls)
+  no_end : (k : ℕ) (ls : List Line) → AreLinesFit p letters k ls → HasNoEnd (written p letters k ls)
   no_end k [] fit = tt
   no_end k (l ∷ ls) fit = (ends (line_bytes p letters k l) (decimal k) (head l) (tail p letters l) (line-words p letters k l small are fit.0 fit.1), no_end (k + 1) ls fit.3)
 
   -- ---- what they say
 
-  says-derivation : (done : List Line) (k : ℕ) (l : Line) (ws : List (List ℕ)) → k ≡ length done + 1 → line_of p letters k ws ≡ Ok l → say p letters (Derivation done) ws ≡ Ok (Derivation (done ++ l ∷ []))
+  says-derivation : (done : List Line) (k : ℕ) (l : Line) (ws : List (List ℕ)) → k ≡ length done + 1 → line_from p letters k ws ≡ Ok l → say p letters (Derivation done) ws ≡ Ok (Derivation (done ++ l ∷ []))
   unfolding say
   says-derivation done k l ws e h = rw (← e, h) refl
 
@@ -97,10 +96,10 @@ module _ (p : ℕ) (letters : List ℕ) (small : p < 2 ^ 16) (are : AreLetters l
   short_bytes : (k : ℕ) (l : Line) → length (line_text p letters k l) ≤ 65537 → length (line_bytes p letters k l) ≤ 65536
   short_bytes k l h = omega (arith, ap length (line-feed p letters k l), length-append (line_bytes p letters k l) (10 ∷ []), h)
 
-  counted_line : (k : ℕ) (l : Line) → k < 10 ^ 18 → IsFit p (length letters) l → are_skipped (words (line_bytes p letters k l)) ≡ false
+  counted_line : (k : ℕ) (l : Line) → k < 10 ^ 18 → IsLineFit p (length letters) l → are_skipped (words (line_bytes p letters k l)) ≡ false
   counted_line k l h fit = ap are_skipped (line-words p letters k l small are h fit) ∙ numeral-no_comment (decimal k) k (decimal-numeral k h)
 
-  says : (done : List Line) (j k : ℕ) (ls : List Line) → k ≡ length done + 1 → AreFit p letters k ls → evidence_from p letters j (Derivation done) (written p letters k ls) true ≡ Ok (Zero (done ++ ls))
+  says : (done : List Line) (j k : ℕ) (ls : List Line) → k ≡ length done + 1 → AreLinesFit p letters k ls → evidence_from p letters j (Derivation done) (written p letters k ls) true ≡ Ok (Zero (done ++ ls))
   says done j k [] e fit = says-end done j ∙ ap (λ (xs : List Line). Ok (Zero xs)) (sym (append-nil done))
   says done j k (l ∷ ls) e fit =
       let line = line_bytes p letters k l in
@@ -118,7 +117,7 @@ module _ (p : ℕ) (letters : List ℕ) (small : p < 2 ^ 16) (are : AreLetters l
   unfolding say heading_of block_of
   heading = refl
 
-  pub reads_back : (ls : List Line) → AreFit p letters 1 ls → ReadsBack p letters (lines_text p letters ls) (Zero ls)
+  pub reads_back : (ls : List Line) → AreLinesFit p letters 1 ls → ReadsBack p letters (lines_text p letters ls) (Zero ls)
   reads_back ls fit = record {
     lines = codes "derivation" ∷ written p letters 1 ls;
     cut = line-first (codes "derivation") (counted (line_text p letters) 1 ls ++ codes "end\n") (plain-no_feed (codes "derivation") refl) ∙ ap (λ xs. codes "derivation" ∷ xs) (cuts 1 ls fit);

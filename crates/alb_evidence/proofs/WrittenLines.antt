@@ -7,24 +7,21 @@ use Rattle.std.proofs.lemmas.Bool.Decides.{nat_tests}
 use Rattle.std.proofs.lemmas.List.{append-nil}
 use Rattle.std.proofs.lemmas.List.Concat.{flat_map-cons}
 use Rattle.alb_mono.proofs.Both.{both_tests, both_true}
-use Rattle.alb_mono.specs.Letters.{AreLetters}
-use Rattle.alb_mono.specs.Tree.{Tree, leaf, node, degree, are_below}
+use Rattle.alb_mono.specs.Tree.{AreLetters, Tree, leaf, node, degree, are_below}
 use Rattle.alb_mono.specs.declared.side.Side.{Side}
 use Rattle.alb_mono.specs.declared.side.Side.TheVariants.{Left, Right}
 use Rattle.alb_print.specs.Text.{mono_text, named}
 use Rattle.alb_print.proofs.Monomials.{below_from}
 use Rattle.alb_print.proofs.Spellings.{monomials-spell_themselves}
-use Rattle.alb_deriv.specs.Derivation.{Line, Instance, Times, Sum}
-use Rattle.alb_deriv.specs.Limits.{AreMonos, AreItems}
-use Rattle.alb_evidence.specs.Words.{words}
-use Rattle.alb_evidence.specs.Block.{mono, monos, mono_of_tokens, spelled, items, instance_of, times_of, sum_of, kind_of, numbered, line_of}
-use Rattle.alb_evidence.specs.Limits.{IsFit}
+use Rattle.alb_deriv.specs.Derivation.{Line, Instance, Times, Sum, AreMonos, AreSumItems}
+use Rattle.alb_evidence.specs.Block.{words, mono_from, monos_from, mono_of_tokens, spelled, items, instance_of, times_of, sum_from, kind_of, after_number, line_from}
+use Rattle.alb_evidence.specs.Limits.{IsLineFit}
 use Rattle.alb_evidence.specs.Texts.{spaced_mono, side_text, item_text, kind_text}
 use Rattle.alb_evidence.proofs.Written.{IsWord, AreWords, spaced, are_plain, is_plain, plain-append, decimal-numeral, numeral-word, number-read, item_word, item-read, item-is_word, words-spaced}
 
 -- ---- monomials
 
-pub mono-read : (letters : List ℕ) (m : Tree) → AreLetters letters → are_below (length letters) m ≡ true → degree m ≤ 64 → mono letters (mono_text letters false m) ≡ Ok m
+pub mono-read : (letters : List ℕ) (m : Tree) → AreLetters letters → are_below (length letters) m ≡ true → degree m ≤ 64 → mono_from letters (mono_text letters false m) ≡ Ok m
 mono-read letters m are below small =
     let t = monomials-spell_themselves letters m are below small 1 in
     ap (mono_of_tokens letters (length (mono_text letters false m) + 1)) t.1 ∙ ap spelled (t.2 (length (mono_text letters false m) + 1))
@@ -52,7 +49,7 @@ mono-some letters false (node l r) = omega (arith, length-append (mono_text lett
 pub mono-is_word : (letters : List ℕ) (m : Tree) → AreLetters letters → are_below (length letters) m ≡ true → IsWord (mono_text letters false m)
 mono-is_word letters m are below = record { some = mono-some letters false m; plain = mono-plain letters false m are below }
 
-monos-read : (letters : List ℕ) (ms : List Tree) → AreLetters letters → AreMonos (length letters) ms → monos letters (map (mono_text letters false) ms) ≡ Ok ms
+monos-read : (letters : List ℕ) (ms : List Tree) → AreLetters letters → AreMonos (length letters) ms → monos_from letters (map (mono_text letters false) ms) ≡ Ok ms
 monos-read letters [] are h = refl
 monos-read letters (m ∷ ms) are h = rw (mono-read letters m are h.0 h.1, monos-read letters ms are h.2) refl
 
@@ -66,11 +63,11 @@ monos-spaced letters (m ∷ ms) = flat_map-cons (spaced_mono letters) m ms ∙ a
 
 -- ---- items
 
-items-read : (p : ℕ) (cs : List (ℕ × ℕ)) → p < 2 ^ 16 → AreItems p cs → items p (map (item_word p) cs) ≡ Ok cs
+items-read : (p : ℕ) (cs : List (ℕ × ℕ)) → p < 2 ^ 16 → AreSumItems p cs → items p (map (item_word p) cs) ≡ Ok cs
 items-read p [] small h = refl
 items-read p (c ∷ cs) small h = rw (item-read p c h.0 h.1 small, items-read p cs small h.2) refl
 
-items-words : (p : ℕ) (cs : List (ℕ × ℕ)) → p < 2 ^ 16 → AreItems p cs → AreWords (map (item_word p) cs)
+items-words : (p : ℕ) (cs : List (ℕ × ℕ)) → p < 2 ^ 16 → AreSumItems p cs → AreWords (map (item_word p) cs)
 items-words p [] small h = tt
 items-words p (c ∷ cs) small h = (item-is_word p c h.0 h.1 small, items-words p cs small h.2)
 
@@ -107,7 +104,7 @@ side-word : (d : Side) → IsWord (side_word d)
 side-word Left = record { some = omega arith; plain = refl }
 side-word Right = record { some = omega arith; plain = refl }
 
-pub kind-words : (p : ℕ) (letters : List ℕ) (l : Line) → p < 2 ^ 16 → AreLetters letters → IsFit p (length letters) l → AreWords (head l ∷ tail p letters l)
+pub kind-words : (p : ℕ) (letters : List ℕ) (l : Line) → p < 2 ^ 16 → AreLetters letters → IsLineFit p (length letters) l → AreWords (head l ∷ tail p letters l)
 kind-words p letters (Instance i ms) small are h = (record { some = omega arith; plain = refl }, (numeral-word (decimal i) i (decimal-numeral i h.0), monos-words letters ms are h.1))
 kind-words p letters (Times k m) small are h =
     (record { some = omega arith; plain = refl }, (numeral-word (decimal k) k (decimal-numeral k h.0), (side-word m.0, (mono-is_word letters m.1 are h.1, tt))))
@@ -124,11 +121,11 @@ instance-read : (letters : List ℕ) (i : ℕ) (ms : List Tree) → AreLetters l
 unfolding instance_of
 instance-read letters i ms are h fit = rw (number-read (decimal i) i (decimal-numeral i h), monos-read letters ms are fit) refl
 
-sum-read : (p : ℕ) (cs : List (ℕ × ℕ)) → p < 2 ^ 16 → AreItems p cs → sum_of p (map (item_word p) cs) ≡ Ok (Sum cs)
-unfolding sum_of
+sum-read : (p : ℕ) (cs : List (ℕ × ℕ)) → p < 2 ^ 16 → AreSumItems p cs → sum_from p (map (item_word p) cs) ≡ Ok (Sum cs)
+unfolding sum_from
 sum-read p cs small fit = rw (items-read p cs small fit) refl
 
-kind-read : (p : ℕ) (letters : List ℕ) (l : Line) → p < 2 ^ 16 → AreLetters letters → IsFit p (length letters) l → kind_of p letters (head l) (tail p letters l) ≡ Ok l
+kind-read : (p : ℕ) (letters : List ℕ) (l : Line) → p < 2 ^ 16 → AreLetters letters → IsLineFit p (length letters) l → kind_of p letters (head l) (tail p letters l) ≡ Ok l
 unfolding kind_of
 kind-read p letters (Instance i ms) small are h = instance-read letters i ms are h.0 h.1
 kind-read p letters (Times k m) small are h = times-read letters k m.0 m.1 are h.0 h.1 h.2
@@ -143,18 +140,18 @@ line_bytes p letters k l = decimal k ++ kind_text p letters l
 same : (k : ℕ) → (k == k) ≡ true
 same k = grind (arith, nat_tests)
 
-pub line-words : (p : ℕ) (letters : List ℕ) (k : ℕ) (l : Line) → p < 2 ^ 16 → AreLetters letters → k < 10 ^ 18 → IsFit p (length letters) l
+pub line-words : (p : ℕ) (letters : List ℕ) (k : ℕ) (l : Line) → p < 2 ^ 16 → AreLetters letters → k < 10 ^ 18 → IsLineFit p (length letters) l
     → words (line_bytes p letters k l) ≡ decimal k ∷ head l ∷ tail p letters l
 line-words p letters k l small are h fit =
     ap (λ xs. words (decimal k ++ xs)) (kind-spaced p letters l)
     ∙ words-spaced (decimal k) (head l ∷ tail p letters l) (numeral-word (decimal k) k (decimal-numeral k h)) (kind-words p letters l small are fit)
 
-pub numbered-read : (k : ℕ) (ws : List (List ℕ)) → k < 10 ^ 18 → numbered k (decimal k ∷ ws) ≡ Ok ws
-unfolding numbered
+pub numbered-read : (k : ℕ) (ws : List (List ℕ)) → k < 10 ^ 18 → after_number k (decimal k ∷ ws) ≡ Ok ws
+unfolding after_number
 numbered-read k ws h = rw (number-read (decimal k) k (decimal-numeral k h), same k) refl
 
-pub line-read : (p : ℕ) (letters : List ℕ) (k : ℕ) (l : Line) → p < 2 ^ 16 → AreLetters letters → k < 10 ^ 18 → IsFit p (length letters) l
-    → line_of p letters k (words (line_bytes p letters k l)) ≡ Ok l
-unfolding line_of
+pub line-read : (p : ℕ) (letters : List ℕ) (k : ℕ) (l : Line) → p < 2 ^ 16 → AreLetters letters → k < 10 ^ 18 → IsLineFit p (length letters) l
+    → line_from p letters k (words (line_bytes p letters k l)) ≡ Ok l
+unfolding line_from
 line-read p letters k l small are h fit =
     rw (line-words p letters k l small are h fit, numbered-read k (head l ∷ tail p letters l) h) (kind-read p letters l small are fit)

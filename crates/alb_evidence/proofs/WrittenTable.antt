@@ -7,17 +7,15 @@ use Rattle.std.proofs.lemmas.Bool.Decides.{nat_tests}
 use Rattle.std.proofs.lemmas.Grind.{replicate_next}
 use Rattle.std.proofs.lemmas.List.{append-nil, length-replicate}
 use Rattle.std.proofs.lemmas.List.Concat.{flat_map-cons}
-use Rattle.alb_io.specs.Lines.{HasNoFeed, lines_of}
+use Rattle.alb_io.specs.Reader.{HasNoFeed, lines_of}
 use Rattle.alb_io.proofs.LineLemmas.{HasNoFeed-append}
 use Rattle.alb_mono.proofs.Both.{both_true}
-use Rattle.alb_mono.specs.Letters.{AreLetters}
+use Rattle.alb_mono.specs.Tree.{AreLetters}
 use Rattle.alb_print.specs.Text.{type_text}
-use Rattle.alb_check.specs.Raw.{Raw}
+use Rattle.alb_check.specs.Raw.{Raw, AreTypes, ArePlaces, AreEntries, IsTableFit}
 use Rattle.alb_check.specs.declared.raw.RawEntry.{RawEntry}
-use Rattle.alb_evidence.specs.Words.{words, is_end}
-use Rattle.alb_evidence.specs.Block.{NotZero, Nothing, Table, evidence_from, say, heading_of, block_of, table_of, table_line, row_of, element_of, generator_of, entry_of, type_of, letter_number, padded, are_skipped, is_comment}
+use Rattle.alb_evidence.specs.Block.{words, is_end, NotZero, Nothing, Table, evidence_from, say, heading_of, block_of, table_of, table_line, row_of, element_of, generator_of, entry_from, type_from, letter_number, padded, are_skipped, is_comment}
 use Rattle.alb_evidence.specs.Reads.{HasNoEnd}
-use Rattle.alb_check.specs.Limits.{AreTypes, ArePlaces, AreEntries, IsTableFit}
 use Rattle.alb_evidence.specs.Accepted.{ReadsBack}
 use Rattle.alb_evidence.specs.Laws.{TablesReadBack}
 use Rattle.alb_evidence.specs.Texts.{counted, signed_text, typed, element_text, generator_text, entry_text, table_text}
@@ -166,7 +164,7 @@ module _ (p : ℕ) (letters : List ℕ) where
     abbrev with_elements : List ℕ → List (List ℕ) → Raw
     with_elements top es = record { top = top; elements = es; generators = []; entries = [] }
 
-    element-row : (top : List ℕ) (done : List (List ℕ)) (k : ℕ) (ty : List ℕ) → k ≡ length done + 1 → k < 10 ^ 18 → length ty ≡ length letters → type_of (length letters) (type_text ty) ≡ Ok ty
+    element-row : (top : List ℕ) (done : List (List ℕ)) (k : ℕ) (ty : List ℕ) → k ≡ length done + 1 → k < 10 ^ 18 → length ty ≡ length letters → type_from (length letters) (type_text ty) ≡ Ok ty
         → table_line p letters (with_elements top done) (codes "element" ∷ decimal k ∷ type_text ty ∷ []) ≡ Ok (with_elements top (done ++ ty ∷ []))
     unfolding table_line row_of element_of
     element-row top done k ty e h l r = rw (← e, numbered-read k (type_text ty ∷ []) h, r) refl
@@ -264,7 +262,7 @@ module _ (p : ℕ) (letters : List ℕ) where
 
     entry-row : (top : List ℕ) (es : List (List ℕ)) (gs : List (Option ℕ)) (done : List RawEntry) (e : RawEntry) → e.left < 10 ^ 18 → e.right < 10 ^ 18 → e.to < 10 ^ 18 → e.coef < p
         → table_line p letters (with_entries top es gs done) (codes "entry" ∷ decimal e.left ∷ decimal e.right ∷ decimal e.to ∷ signed_text p e.coef ∷ []) ≡ Ok (with_entries top es gs (done ++ e ∷ []))
-    unfolding table_line row_of entry_of
+    unfolding table_line row_of entry_from
     entry-row top es gs done e a b c d =
         rw (number-read (decimal e.left) e.left (decimal-numeral e.left a), number-read (decimal e.right) e.right (decimal-numeral e.right b), number-read (decimal e.to) e.to (decimal-numeral e.to c), (signed-is p e.coef d small).read) refl
 
@@ -297,7 +295,7 @@ module _ (p : ℕ) (letters : List ℕ) where
 
     -- ---- the block
 
-    heading : (top : List ℕ) → type_of (length letters) (type_text top) ≡ Ok top → say p letters Nothing (codes "table" ∷ type_text top ∷ []) ≡ Ok (Table (with_elements top []))
+    heading : (top : List ℕ) → type_from (length letters) (type_text top) ≡ Ok top → say p letters Nothing (codes "table" ∷ type_text top ∷ []) ≡ Ok (Table (with_elements top []))
     unfolding say heading_of block_of table_of
     heading top h = rw h refl
 

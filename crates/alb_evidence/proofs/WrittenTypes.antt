@@ -14,8 +14,8 @@ use Rattle.alb_print.proofs.Counts.{later_count, counts-cons}
 use Rattle.alb_print.proofs.Numbers.{spelled-number}
 use Rattle.alb_print.proofs.Spelled.{Spelled, spelled-one, spelled-both, spelled-all}
 use Rattle.alb_evidence.specs.Block as value
-use Rattle.alb_evidence.specs.Block.{later_counts, counts, counts_of_tokens, onto_counts, is_open, is_close, count_of, type_of, or_bad}
-use Rattle.alb_check.specs.Limits.{AreCounts}
+use Rattle.alb_evidence.specs.Block.{later_counts, counts_in, counts_of_tokens, onto_counts, opens_bracket, closes_bracket, count_in, type_from, or_bad_line}
+use Rattle.alb_check.specs.Raw.{AreCounts}
 use Rattle.alb_evidence.proofs.Written.{IsWord, are_plain, plain-append, decimal-numeral, numeral-word}
 
 -- what stands behind the first count
@@ -36,21 +36,21 @@ type-is c cs =
 
 close-ends : (t : Token) → t.kind ≡ kinds.Close → later_counts (t ∷ []) ≡ Some []
 unfolding later_counts
-close-ends t e = ap (λ k. if is_close k then Some [] else None) e
+close-ends t e = ap (λ k. if closes_bracket k then Some [] else None) e
 
 low_count : (c : ℕ) → c ≤ 255 → nat_le c 255 ≡ true
 low_count c h = grind (arith, nat_tests)
 
-count-is : (c : ℕ) → c ≤ 255 → count_of (kinds.Number c) ≡ Some c
+count-is : (c : ℕ) → c ≤ 255 → count_in (kinds.Number c) ≡ Some c
 count-is c h = rw (low_count c h) refl
 
 later-step : (a t : Token) (us : List Token) (c : ℕ) (cs : List ℕ) → a.kind ≡ kinds.Comma → t.kind ≡ kinds.Number c → c ≤ 255 → later_counts us ≡ Some cs → later_counts (a ∷ t ∷ us) ≡ Some (c ∷ cs)
 unfolding later_counts
 later-step a t us c cs ea et h eu = (λ i. onto_counts (value.later_count (ea i) (et i)) (eu i)) ∙ ap (λ o. onto_counts o (Some cs)) (count-is c h)
 
-counts-step : (a t : Token) (us : List Token) (c : ℕ) (cs : List ℕ) → a.kind ≡ kinds.Open → t.kind ≡ kinds.Number c → c ≤ 255 → later_counts us ≡ Some cs → counts (a ∷ t ∷ us) ≡ Some (c ∷ cs)
-unfolding counts
-counts-step a t us c cs ea et h eu = (λ i. if is_open (ea i) then onto_counts (count_of (et i)) (eu i) else None) ∙ ap (λ o. onto_counts o (Some cs)) (count-is c h)
+counts-step : (a t : Token) (us : List Token) (c : ℕ) (cs : List ℕ) → a.kind ≡ kinds.Open → t.kind ≡ kinds.Number c → c ≤ 255 → later_counts us ≡ Some cs → counts_in (a ∷ t ∷ us) ≡ Some (c ∷ cs)
+unfolding counts_in
+counts-step a t us c cs ea et h eu = (λ i. if opens_bracket (ea i) then onto_counts (count_in (et i)) (eu i) else None) ∙ ap (λ o. onto_counts o (Some cs)) (count-is c h)
 
 -- a count, and counts behind it
 abbrev Counts : ℕ → List ℕ → List Token → Type 0
@@ -73,23 +73,23 @@ closing-spelled (c ∷ cs) h =
     (spelled-one 44 kinds.Comma (Sign kinds.Comma) refl refl refl (λ t e. (t, refl, e))) (count-spelled c cs h.0 (closing-spelled cs h.1))
     (λ us vs a b. (λ i. later_counts (a.1 i ++ b.2 i)) ∙ later-step a.0 b.0 b.1 c cs a.2 b.3 h.0 b.4)
 
-type-spelled : (c : ℕ) (cs : List ℕ) → c ≤ 255 → AreCounts cs → Spelled (40 ∷ (decimal c ++ closing cs)) (λ ts. counts ts ≡ Some (c ∷ cs))
+type-spelled : (c : ℕ) (cs : List ℕ) → c ≤ 255 → AreCounts cs → Spelled (40 ∷ (decimal c ++ closing cs)) (λ ts. counts_in ts ≡ Some (c ∷ cs))
 type-spelled c cs h k =
-    spelled-both (40 ∷ []) (decimal c ++ closing cs) (Sign kinds.Open) (Counts c cs) (λ ts. counts ts ≡ Some (c ∷ cs))
+    spelled-both (40 ∷ []) (decimal c ++ closing cs) (Sign kinds.Open) (Counts c cs) (λ ts. counts_in ts ≡ Some (c ∷ cs))
     (spelled-one 40 kinds.Open (Sign kinds.Open) refl refl refl (λ t e. (t, refl, e))) (count-spelled c cs h (closing-spelled cs k))
-    (λ us vs a b. (λ i. counts (a.1 i ++ b.2 i)) ∙ counts-step a.0 b.0 b.1 c cs a.2 b.3 h b.4)
+    (λ us vs a b. (λ i. counts_in (a.1 i ++ b.2 i)) ∙ counts-step a.0 b.0 b.1 c cs a.2 b.3 h b.4)
 
 same : (n m : ℕ) → n ≡ m → (n == m) ≡ true
 same n m e = grind (arith, nat_tests)
 
-read_tokens : (n : ℕ) (w t : List ℕ) (ts : List Token) → tokens_from false 1 w ≡ Ok ts → counts ts ≡ Some t → length t ≡ n → type_of n w ≡ Ok t
-unfolding type_of
+read_tokens : (n : ℕ) (w t : List ℕ) (ts : List Token) → tokens_from false 1 w ≡ Ok ts → counts_in ts ≡ Some t → length t ≡ n → type_from n w ≡ Ok t
+unfolding type_from
 read_tokens n w t ts e f l = rw (e, f, same (length t) n l) refl
 
-pub type-read : (n : ℕ) (t : List ℕ) → 0 < n → length t ≡ n → AreCounts t → type_of n (type_text t) ≡ Ok t
+pub type-read : (n : ℕ) (t : List ℕ) → 0 < n → length t ≡ n → AreCounts t → type_from n (type_text t) ≡ Ok t
 type-read n [] pos l h = absurd (omega arith)
 type-read n (c ∷ cs) pos l h =
-    let s = spelled-all (40 ∷ (decimal c ++ closing cs)) (λ ts. counts ts ≡ Some (c ∷ cs)) (type-spelled c cs h.0 h.1) 1 in
+    let s = spelled-all (40 ∷ (decimal c ++ closing cs)) (λ ts. counts_in ts ≡ Some (c ∷ cs)) (type-spelled c cs h.0 h.1) 1 in
     read_tokens n (type_text (c ∷ cs)) (c ∷ cs) s.0 (ap (tokens_from false 1) (type-is c cs) ∙ s.2) s.1 l
 
 -- ---- the word

@@ -2,7 +2,7 @@
 use Rattle.std.specs.Prelude.{◌≡◌, ℕ, Bool, true, false, nat_lt, List, length, Option, Some, Result}
 use Rattle.alb_io.specs.Reader.{Reader, Reads}
 use Rattle.alb_io.specs.declared.step.LineStep.TheVariants as step
-use Rattle.alb_evidence.specs.Words.{is_end}
+use Rattle.alb_evidence.specs.Block.{is_end}
 use Rattle.alb_evidence.specs.Reads.{ReadsLine, ReadsBlock, Breaks, Closes}
 use Rattle.alb_evidence.specs.Said.{Takes}
 use Rattle.alb_evidence.specs.declared.block.Block.{Block}

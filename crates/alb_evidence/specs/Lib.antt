@@ -1,4 +1,3 @@
-pub mod Words
 pub mod Block
 pub mod Gives
 pub mod Said

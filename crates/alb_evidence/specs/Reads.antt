@@ -1,10 +1,9 @@
 -- What the readers of blocks take from a source.
 use Rattle.std.specs.Prelude.{◌≡◌, ℕ, Bool, true, false, List, [], ◌∷◌, ◌++◌, Option, Result, Ok, Err}
-use Rattle.alb_io.specs.Reader.{Reader, Reads, IsFirst}
+use Rattle.alb_io.specs.Reader.{Reader, Reads, IsFirstLine}
 use Rattle.alb_io.specs.declared.step.LineStep.{LineStep}
 use Rattle.alb_io.specs.declared.step.LineStep.TheVariants as step
-use Rattle.alb_evidence.specs.Words.{is_end}
-use Rattle.alb_evidence.specs.Block.{BadLine, BadNumber, evidence_of}
+use Rattle.alb_evidence.specs.Block.{is_end, BadLine, BadNumber, evidence_of}
 use Rattle.alb_evidence.specs.Views.{evidence}
 use Rattle.alb_evidence.specs.declared.evidence.Evidence.{Evidence}
 use Rattle.alb_evidence.specs.declared.error.EvidenceError.{EvidenceError}
@@ -16,7 +15,7 @@ use Rattle.alb_evidence.specs.declared.error.SkipError.TheVariants as skip
 pub record ReadsLine (old new : Reader) (before now : Option (List ℕ)) (line : List ℕ) : Type 0 where
   pub answer : LineStep
   pub reads : Reads answer old new before now
-  pub is_first : IsFirst line (old.held ++ reads.got) new.held new.at_end
+  pub is_first : IsFirstLine line (old.held ++ reads.got) new.held new.at_end
   pub running : new.ended ≡ false
 
 -- these lines were read, one after the other

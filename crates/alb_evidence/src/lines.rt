@@ -1,11 +1,9 @@
 //! The lines of a derivation.
 
 ghost use Rattle.std.specs.Prelude.{◌≡◌, ◌≤◌, ◌<◌, IsTrue, All, ℕ, length, map, IfOk};
-ghost use Rattle.alb_mono.specs.Mono.{tree};
-ghost use Rattle.alb_mono.specs.Tree.{degree, are_below};
+ghost use Rattle.alb_mono.specs.Tree.{tree, degree, are_below};
 ghost use Rattle.alb_deriv.specs.Views.{line, IsLine};
-ghost use Rattle.alb_evidence.specs.Words.{words};
-ghost use Rattle.alb_evidence.specs.Block.{mono, monos, side, item, items, instance_of, times_of, sum_of, kind_of, line_of};
+ghost use Rattle.alb_evidence.specs.Block.{words, mono_from, monos_from, side, item, items, instance_of, times_of, sum_from, kind_of, line_from};
 ghost use Rattle.alb_evidence.specs.Gives.{Gives};
 
 use crate::flaw::Flaw;
@@ -20,7 +18,7 @@ use std::alloc::Global;
 // The monomial that a word is.
 fn mono(alloc: Global, letters: &Letters, word: &[u8]) -> Result<Mono, Flaw>
     requires { length word.now ≤ 65536 }
-    ensures value { Gives tree result (mono letters.now word.now) }
+    ensures value { Gives tree result (mono_from letters.now word.now) }
     ensures small { IfOk result (λ m. degree (tree m) ≤ 64) }
     ensures known { IfOk result (λ m. IsTrue (are_below (length letters.now) (tree m))) }
 {
@@ -38,7 +36,7 @@ fn mono(alloc: Global, letters: &Letters, word: &[u8]) -> Result<Mono, Flaw>
 // The monomials that the words of a text are.
 fn monos(alloc: Global, letters: &Letters, text: &[u8]) -> Result<Vec<Mono>, Flaw>
     requires { length text.now ≤ 65536 }
-    ensures value { Gives (λ v. map tree v.items) result (monos letters.now (words text.now)) }
+    ensures value { Gives (λ v. map tree v.items) result (monos_from letters.now (words text.now)) }
     ensures small { IfOk result (λ v. All (λ m. degree (tree m) ≤ 64) v.items) }
     ensures known { IfOk result (λ v. All (λ m. IsTrue (are_below (length letters.now) (tree m))) v.items) }
 {
@@ -127,9 +125,9 @@ fn items(alloc: Global, field: &Field, text: &[u8]) -> Result<Vec<(Residue, u64)
 }
 
 // A sum of multiples of lines.
-#[tactic(auto, unfolding(crate::specs::Block::sum_of))]
+#[tactic(auto, unfolding(crate::specs::Block::sum_from))]
 fn sum_of(alloc: Global, field: &Field, text: &[u8]) -> Result<Line, Flaw>
-    ensures value { Gives line result (sum_of field.now (words text.now)) }
+    ensures value { Gives line result (sum_from field.now (words text.now)) }
     ensures line { (n : ℕ) → IfOk result (λ l. IsLine field.now n l) }
 {
     let list = items(alloc, field, text)?;
@@ -162,7 +160,7 @@ fn kind_of(
 }
 
 /// Line `wanted` of a derivation: its number, what it is, and its parts.
-#[tactic(auto, unfolding(crate::specs::Block::line_of))]
+#[tactic(auto, unfolding(crate::specs::Block::line_from))]
 pub fn line_of(
     alloc: Global,
     field: &Field,
@@ -171,7 +169,7 @@ pub fn line_of(
     text: &[u8],
 ) -> Result<Line, Flaw>
     requires { length text.now ≤ 65536 }
-    ensures value { Gives line result (line_of field.now letters.now wanted (words text.now)) }
+    ensures value { Gives line result (line_from field.now letters.now wanted (words text.now)) }
     ensures line { IfOk result (IsLine field.now (length letters.now)) }
 {
     let behind = numbered(text, wanted)?;

@@ -2,8 +2,7 @@
 
 ghost use Rattle.std.specs.Prelude.{◌≤◌, ◌+◌, ℕ, All, map, length, IfOk};
 ghost use Rattle.alb_deriv.specs.Views.{line, IsLine};
-ghost use Rattle.alb_evidence.specs.Words.{words};
-ghost use Rattle.alb_evidence.specs.Block.{derivation_of, table_of, block_of, heading_of, line_of, pushed, say};
+ghost use Rattle.alb_evidence.specs.Block.{words, derivation_of, table_of, block_of, heading_of, line_from, pushed, say};
 ghost use Rattle.alb_evidence.specs.Gives.{Gives};
 ghost use Rattle.alb_evidence.specs.Said.{said, IsSaid};
 
@@ -91,7 +90,7 @@ fn push_line(
     text: &[u8],
 ) -> Result<(), Flaw>
     requires { length text.now ≤ 65536 }
-    ensures value { Gives (λ _. map line lines.new.items) result (pushed (map line lines.old.items) (line_of field.now letters.now (length (map line lines.old.items) + 1) (words text.now))) }
+    ensures value { Gives (λ _. map line lines.new.items) result (pushed (map line lines.old.items) (line_from field.now letters.now (length (map line lines.old.items) + 1) (words text.now))) }
     ensures lines { All (IsLine field.now (length letters.now)) lines.old.items → IfOk result (λ _. All (IsLine field.now (length letters.now)) lines.new.items) }
 {
     let next = line_of(alloc, field, letters, lines.len() as u64 + 1, text)?;

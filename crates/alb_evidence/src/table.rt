@@ -3,8 +3,7 @@
 ghost use Rattle.std.specs.Prelude.{◌≡◌, ◌≤◌, ◌-◌, ◌∷◌, ◌++◌, ℕ, false, None, Ok, length, replicate, option_map, IfOk};
 ghost use Rattle.alb_lex.specs.Lexing.{tokens_from};
 ghost use Rattle.alb_check.specs.Raw.{raw};
-ghost use Rattle.alb_evidence.specs.Words.{words};
-ghost use Rattle.alb_evidence.specs.Block.{or_bad, count_of, later_count, is_open, is_close, later_counts, counts, counts_of_tokens, type_of, letter_number, element_of, generator_of, entry_of, row_of, table_line};
+ghost use Rattle.alb_evidence.specs.Block.{words, or_bad_line, count_in, later_count, opens_bracket, closes_bracket, later_counts, counts_in, counts_of_tokens, type_from, letter_number, element_of, generator_of, entry_from, row_of, table_line};
 ghost use Rattle.alb_evidence.specs.Gives.{Gives};
 ghost use Rattle.alb_evidence.specs.Said.{IsRawPart};
 
@@ -18,7 +17,7 @@ use std::alloc::Global;
 
 // A count of at most 255.
 fn count_of(kind: TokenKind) -> Option<u8>
-    ensures { result ≡ count_of kind }
+    ensures { result ≡ count_in kind }
 {
     match kind {
         TokenKind::Number(n) => { if n <= 255 { Some(n as u8) } else { None } }
@@ -37,13 +36,13 @@ fn later_count(first: TokenKind, second: TokenKind) -> Option<u8>
 }
 
 fn is_open(kind: TokenKind) -> bool
-    ensures { result ≡ is_open kind }
+    ensures { result ≡ opens_bracket kind }
 {
     matches!(kind, TokenKind::Open)
 }
 
 fn is_close(kind: TokenKind) -> bool
-    ensures { result ≡ is_close kind }
+    ensures { result ≡ closes_bracket kind }
 {
     matches!(kind, TokenKind::Close)
 }
@@ -51,7 +50,7 @@ fn is_close(kind: TokenKind) -> bool
 // The counts of a type, of which the first was read.
 #[tactic(auto, unfolding(crate::specs::Block::later_counts))]
 fn counts_from(alloc: Global, first: u8, text: &[Token]) -> Result<Vec<u8>, Flaw>
-    ensures { Gives (λ v. v.items) result (or_bad (option_map (λ ns. first ∷ ns) (later_counts text.now))) }
+    ensures { Gives (λ v. v.items) result (or_bad_line (option_map (λ ns. first ∷ ns) (later_counts text.now))) }
 {
     let mut list = Vec::new(alloc);
     list.push(first)?;
@@ -76,9 +75,9 @@ fn counts_from(alloc: Global, first: u8, text: &[Token]) -> Result<Vec<u8>, Flaw
 }
 
 // The counts of a type.
-#[tactic(auto, unfolding(crate::specs::Block::counts))]
+#[tactic(auto, unfolding(crate::specs::Block::counts_in))]
 fn counts(alloc: Global, text: &[Token]) -> Result<Vec<u8>, Flaw>
-    ensures { Gives (λ v. v.items) result (or_bad (counts text.now)) }
+    ensures { Gives (λ v. v.items) result (or_bad_line (counts_in text.now)) }
 {
     match text {
         [open, first, behind @ ..] => {
@@ -97,7 +96,7 @@ fn counts(alloc: Global, text: &[Token]) -> Result<Vec<u8>, Flaw>
 // The counts of the type that a word is.
 fn counts_of(alloc: Global, word: &[u8]) -> Result<Vec<u8>, Flaw>
     requires { length word.now ≤ 65536 }
-    ensures { Gives (λ v. v.items) result (or_bad (counts_of_tokens (tokens_from false 1 word.now))) }
+    ensures { Gives (λ v. v.items) result (or_bad_line (counts_of_tokens (tokens_from false 1 word.now))) }
 {
     match tokens(alloc, word, 0) {
         Ok(list) => counts(alloc, &list),
@@ -107,10 +106,10 @@ fn counts_of(alloc: Global, word: &[u8]) -> Result<Vec<u8>, Flaw>
 }
 
 /// The type that a word is, with as many counts as there are letters.
-#[tactic(auto, unfolding(crate::specs::Block::type_of))]
+#[tactic(auto, unfolding(crate::specs::Block::type_from))]
 pub fn type_of(alloc: Global, letters: &Letters, word: &[u8]) -> Result<Multi, Flaw>
     requires { length word.now ≤ 65536 }
-    ensures value { Gives (λ t. t) result (type_of (length letters.now) word.now) }
+    ensures value { Gives (λ t. t) result (type_from (length letters.now) word.now) }
     ensures long { IfOk result (λ t. length t ≡ length letters.now) }
 {
     let list = counts_of(alloc, word)?;
@@ -191,9 +190,9 @@ fn generator_of(letters: &Letters, table: &mut RawTable, text: &[u8]) -> Result<
 }
 
 // A coefficient of the product of two elements.
-#[tactic(auto, unfolding(crate::specs::Block::entry_of))]
+#[tactic(auto, unfolding(crate::specs::Block::entry_from))]
 fn entry_of(field: &Field, table: &mut RawTable, text: &[u8]) -> Result<(), Flaw>
-    ensures value { Gives (λ _. raw table.new) result (entry_of field.now (raw table.old) (words text.now)) }
+    ensures value { Gives (λ _. raw table.new) result (entry_from field.now (raw table.old) (words text.now)) }
     ensures part { (n : ℕ) → IsRawPart field.now n (raw table.old) → IfOk result (λ _. IsRawPart field.now n (raw table.new)) }
 {
     let (first, behind_first) = first_word(text)?;

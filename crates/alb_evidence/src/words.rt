@@ -4,8 +4,7 @@ ghost use Rattle.std.specs.Prelude.{◌≡◌, ◌<◌, ◌≤◌, ◌==◌, ℕ
 ghost use Rattle.std.specs.List.{list_all};
 ghost use Rattle.std.specs.Char.{is_ascii_digit};
 ghost use Rattle.alb_lex.specs.Lexing.{is_blank, value_after};
-ghost use Rattle.alb_evidence.specs.Words.{words, cut, are_end};
-ghost use Rattle.alb_evidence.specs.Block.{first_word, no_more, digits, is_negative, number, coefficient, numbered, is_comment, are_skipped};
+ghost use Rattle.alb_evidence.specs.Block.{words, cut, are_end, first_word, no_more, digits, has_minus, number, signed_number, after_number, is_comment, are_skipped};
 ghost use Rattle.alb_evidence.specs.Gives.{Gives};
 
 use crate::flaw::Flaw;
@@ -116,7 +115,7 @@ pub fn is_skipped(line: &[u8]) -> bool
 
 // Whether the text begins with a minus.
 fn is_negative(word: &[u8]) -> bool
-    ensures value { result ≡ is_negative word.now }
+    ensures value { result ≡ has_minus word.now }
     ensures some { IsTrue result → 1 ≤ length word.now }
 {
     match word {
@@ -173,9 +172,9 @@ pub fn number(word: &[u8]) -> Result<u64, Flaw>
 }
 
 /// The residue of the number, with or without a minus, that a word is.
-#[tactic(auto, unfolding(crate::specs::Block::coefficient))]
+#[tactic(auto, unfolding(crate::specs::Block::signed_number))]
 pub fn coefficient(field: &Field, word: &[u8]) -> Result<Residue, Flaw>
-    ensures value { Gives (λ c. c) result (coefficient field.now word.now) }
+    ensures value { Gives (λ c. c) result (signed_number field.now word.now) }
     ensures residue { IfOk result (λ c. c < field.now) }
 {
     let p = field.p();
@@ -188,9 +187,9 @@ pub fn coefficient(field: &Field, word: &[u8]) -> Result<Residue, Flaw>
 }
 
 /// The text behind the number `wanted`, with which a line begins.
-#[tactic(auto, unfolding(crate::specs::Block::numbered))]
+#[tactic(auto, unfolding(crate::specs::Block::after_number))]
 pub fn numbered(text: &[u8], wanted: u64) -> Result<&[u8], Flaw>
-    ensures value { Gives (λ t. words t.now) result (numbered wanted (words text.now)) }
+    ensures value { Gives (λ t. words t.now) result (after_number wanted (words text.now)) }
     ensures short { IfOk result (λ t. length t.now ≤ length text.now) }
 {
     let (first, behind) = first_word(text)?;

@@ -3,8 +3,7 @@ use Rattle.std.proofs.Common.{◌≡◌, ◌≢◌, ◌⊎◌, ℕ, ◌+◌, ◌
 use Rattle.std.specs.Io.KnownBytes.{Consumes, IsAtEnd, Keeps}
 use Rattle.std.proofs.KnownBytes.{Consumes-nil, Consumes-trans, Consumes-kept}
 use Rattle.std.proofs.lemmas.List.{append-nil, length-append, length-take, nil_from_length}
-use Rattle.alb_io.specs.Lines.{HasNoFeed}
-use Rattle.alb_io.specs.Reader.{Reads, Lazily, Gives, IsFirst}
+use Rattle.alb_io.specs.Reader.{HasNoFeed, Reads, Lazily, GivesLine, IsFirstLine}
 use Rattle.alb_io.specs.Feeder.{held_of, IsFeeder, IsGathered, IsStep, MovesPart, TakesPiece, reader_of, is_line, is_last}
 use Rattle.alb_io.specs.declared.feeder.Feeder.{Feeder}
 use Rattle.alb_io.specs.declared.feeder.Gathered.{Gathered}
@@ -84,7 +83,7 @@ Piecing-fill old mid new g before between now none running p t = record {
 -- an answer to what was read so far
 pub Piecing-gives : (old mid new : Feeder) (g h : Gathered) (before now : Option (List ℕ)) (answer : LineStep) (p : Piecing old mid g before now)
     → IsFeeder new → new.room ≡ mid.room → new.at_end ≡ mid.at_end
-    → Gives answer (held_of old ++ p.got) (reader_of new h.bytes.items (is_line answer) (is_last answer))
+    → GivesLine answer (held_of old ++ p.got) (reader_of new h.bytes.items (is_line answer) (is_last answer))
     → Reads answer (reader_of old [] false false) (reader_of new h.bytes.items (is_line answer) (is_last answer)) before now
 Piecing-gives old mid new g h before now answer p is room at_end gives = record {
   got = p.got;
@@ -99,8 +98,8 @@ Piecing-gives old mid new g h before now answer p is room at_end gives = record 
 }
 
 -- a whole line, as one that fits or one that does not
-Gives-step : (bytes line : List ℕ) (f : Feeder) (h : Gathered) (answer : LineStep) → IsStep line h.bytes.items answer → IsFirst line bytes (held_of f) f.at_end
-    → Gives answer bytes (reader_of f h.bytes.items (is_line answer) (is_last answer))
+Gives-step : (bytes line : List ℕ) (f : Feeder) (h : Gathered) (answer : LineStep) → IsStep line h.bytes.items answer → IsFirstLine line bytes (held_of f) f.at_end
+    → GivesLine answer bytes (reader_of f h.bytes.items (is_line answer) (is_last answer))
 Gives-step bytes line f h step.Line s first = (line, ap Some s.0, s.1, first, refl)
 Gives-step bytes line f h step.TooLong s first = (line, refl, s, first, refl)
 Gives-step bytes line f h step.End s first = absurd s

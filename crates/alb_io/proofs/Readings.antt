@@ -3,9 +3,7 @@ use Rattle.std.proofs.Common.{◌≡◌, ◌≢◌, ◌⊎◌, ℕ, ◌≤◌, l
 use Rattle.std.specs.Io.KnownBytes.{Consumes, IsAtEnd}
 use Rattle.std.proofs.KnownBytes.{Consumes-nil, Consumes-trans}
 use Rattle.std.proofs.lemmas.List.{append-nil}
-use Rattle.alb_io.specs.Lines.{HasNoFeed, onto_first, onto_whole, lines_of, whole_lines}
-use Rattle.alb_io.specs.Reader.{Reader, Reads, IsFirst}
-use Rattle.alb_io.specs.Reading.{HasRead, IsAll, Reading, TakesLines}
+use Rattle.alb_io.specs.Reader.{HasNoFeed, onto_first, onto_whole, lines_of, whole_lines, Reader, Reads, IsFirstLine, HasRead, IsAll, Reading, TakesLines}
 use Rattle.alb_io.specs.declared.step.LineStep.{LineStep}
 use Rattle.alb_io.specs.declared.step.LineStep.TheVariants as step
 use Rattle.alb_io.proofs.LineLemmas.{true_is_not}
@@ -111,7 +109,7 @@ lines_got taken lines old new first before now answer p r = elim (either_end old
   | inr running ↦ HasRead-lines taken lines old.held r.got (p.so_far running)
 ]
 
-lines_of-first : (line bytes rest : List ℕ) (end : Bool) → IsFirst line bytes rest end → lines_of bytes ≡ line ∷ lines_of rest
+lines_of-first : (line bytes rest : List ℕ) (end : Bool) → IsFirstLine line bytes rest end → lines_of bytes ≡ line ∷ lines_of rest
 lines_of-first line bytes rest end f = elim f.1 [
   | inl feed ↦ ap lines_of feed ∙ lines_of-feed line rest f.0
   | inr all ↦ ap lines_of all.0 ∙ lines_of-rest line f.0 all.1 ∙ sym (ap (λ l. line ∷ lines_of l) all.2)
@@ -119,7 +117,7 @@ lines_of-first line bytes rest end f = elim f.1 [
 
 -- a line was given
 pub Reading-first : (taken : List ℕ) (lines : List (List ℕ)) (line : List ℕ) (old new : Reader) (first before now : Option (List ℕ)) (answer : LineStep)
-    → Reading taken lines old first before → (r : Reads answer old new before now) → IsFirst line (old.held ++ r.got) new.held new.at_end
+    → Reading taken lines old first before → (r : Reads answer old new before now) → IsFirstLine line (old.held ++ r.got) new.held new.at_end
     → Reading (taken ++ r.got) (lines ++ line ∷ []) new first now
 Reading-first taken lines line old new first before now answer p r f = record {
   consumed = Consumes-trans first before now taken r.got p.consumed r.consumed;

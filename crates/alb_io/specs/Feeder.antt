@@ -1,8 +1,7 @@
 -- What the parts of a reader of lines do.
 use Rattle.std.specs.Prelude.{◌≡◌, ℕ, ◌+◌, ◌<◌, ◌≤◌, Bool, true, false, List, [], ◌∷◌, ◌++◌, length, slice_range, Option, Some, None, Result, MatchResult, if◌then◌else◌}
 use Rattle.std.specs.Io.KnownBytes.{Consumes, IsAtEnd, Keeps}
-use Rattle.alb_io.specs.Lines.{HasNoFeed}
-use Rattle.alb_io.specs.Reader.{Reader}
+use Rattle.alb_io.specs.Reader.{HasNoFeed, Reader}
 use Rattle.alb_io.specs.declared.feeder.Feeder.{Feeder}
 use Rattle.alb_io.specs.declared.feeder.Gathered.{Gathered}
 use Rattle.alb_io.specs.declared.step.LineStep.{LineStep}

@@ -1,11 +1,9 @@
 pub mod Causes
 pub mod Feeder
 pub mod Files
-pub mod Lines
 pub mod MemFiles
 pub mod Memory
 pub mod Puts
 pub mod Reader
-pub mod Reading
 pub mod Status
 pub mod Writes

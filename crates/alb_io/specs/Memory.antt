@@ -96,11 +96,11 @@ sink_of name (Some f) = record { name = Some name; taken = []; piece = f.piece; 
 
 -- What `open` answers: the file's source; a fault exactly where the call is listed or there is no such file; or want of
 -- memory, which changes nothing.
-abbrev pub Opens : List ℕ → Result Giving OpenError → Shelf → Shelf → Type 0
-Opens name (Ok source) old new =
+abbrev pub OpensFile : List ℕ → Result Giving OpenError → Shelf → Shelf → Type 0
+OpensFile name (Ok source) old new =
     (Contains old.failing old.next → ⊥) × ((f : Stored) × (file_named name old.files ≡ Some f) × (source ≡ source_of f)) × (new ≡ after_call old)
-Opens name (Err error.Failed) old new = (Contains old.failing old.next ⊎ (file_named name old.files ≡ None)) × (new ≡ after_failed_call old)
-Opens name (Err error.NoMemory) old new =
+OpensFile name (Err error.Failed) old new = (Contains old.failing old.next ⊎ (file_named name old.files ≡ None)) × (new ≡ after_failed_call old)
+OpensFile name (Err error.NoMemory) old new =
     (Contains old.failing old.next → ⊥) × ((f : Stored) × (file_named name old.files ≡ Some f)) × (new ≡ old)
 
 -- what `create` answers

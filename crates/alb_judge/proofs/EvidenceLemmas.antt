@@ -8,8 +8,7 @@ use Rattle.std.proofs.lemmas.List.Elements.{All-nil, All-push}
 use Rattle.alb_lex.specs.Lexing.{tokens_from}
 use Rattle.alb_check.specs.Raw.{Raw, IsRaw}
 use Rattle.alb_check.specs.declared.raw.RawEntry.{RawEntry}
-use Rattle.alb_evidence.specs.Words.{words, is_word}
-use Rattle.alb_evidence.specs.Block.{Code, ABadLine, Evidence, NotZero, Fault, ◌>>=◌, must, or_bad, first_word, no_more, digits, is_negative, number, coefficient, numbered, counts_of_tokens, type_of, is_empty, element_of, letter_number, named, generator_of, entry_of, row_of, table_line, Said, Nothing, Derivation, Table, derivation_of, table_of, block_of, heading_of, pushed, line_of, say, say_line, is_skipped, whole, at_line, closed, go_on, evidence_from, evidence_of}
+use Rattle.alb_evidence.specs.Block.{words, is_word, Code, ABadLine, Evidence, NotZero, BlockFault, ◌>>=◌, must_hold, or_bad_line, first_word, no_more, digits, has_minus, number, signed_number, after_number, counts_of_tokens, type_from, is_empty, element_of, letter_number, with_generator, generator_of, entry_from, row_of, table_line, Said, Nothing, Derivation, Table, derivation_of, table_of, block_of, heading_of, pushed, line_from, say, say_line, is_skipped, whole, at_line, closed, go_on, evidence_from, evidence_of}
 
 got : {A B : Type 0} (r : Result A Code) (f : A → Result B Code) (b : B) → (r >>= f) ≡ Ok b → (x : A) × (r ≡ Ok x) × (f x ≡ Ok b)
 got (Ok x) f b h = (x, refl, h)
@@ -22,7 +21,7 @@ Read A = Result A Code
 ok-same : {A : Type 0} (x y : A) (r s : Read A) → r ≡ Ok x → s ≡ Ok y → r ≡ s → x ≡ y
 ok-same x y r s p q h = cc
 
-kept : (b : Bool) (u : Unit {0}) → must b ≡ Ok u → b ≡ true
+kept : (b : Bool) (u : Unit {0}) → must_hold b ≡ Ok u → b ≡ true
 kept true u h = refl
 kept false u h = absurd (cc)
 
@@ -38,20 +37,20 @@ abbrev IsSaid : ℕ → ℕ → Said → Type 0
 IsSaid p n (Table t) = IsSaidTable p n t
 IsSaid p n other = Unit {0}
 
-type-long : (n : ℕ) (w y : List ℕ) → type_of n w ≡ Ok y → length y ≡ n
-unfolding type_of
+type-long : (n : ℕ) (w y : List ℕ) → type_from n w ≡ Ok y → length y ≡ n
+unfolding type_from
 type-long n w y h =
-    let a = got (or_bad (counts_of_tokens (tokens_from false 1 w))) (λ ns. must (length ns == n) >>= λ u. Ok ns) y h in
-    let b = got (must (length a.0 == n)) (λ u. Ok a.0) y a.2 in
+    let a = got (or_bad_line (counts_of_tokens (tokens_from false 1 w))) (λ ns. must_hold (length ns == n) >>= λ u. Ok ns) y h in
+    let b = got (must_hold (length a.0 == n)) (λ u. Ok a.0) y a.2 in
     let e = ok-same a.0 y (Ok a.0) (Ok y) refl refl b.2 in
     subst (λ (l : List ℕ). length l ≡ n) e (grind (arith, nat_tests, kept (length a.0 == n) b.0 b.1))
 
 residue : (p n : ℕ) → 0 < p → n % p < p
 residue p n h = omega (arith, h)
 
-coefficient-small : (p c : ℕ) (w : List ℕ) → 0 < p → coefficient p w ≡ Ok c → c < p
-unfolding coefficient
-coefficient-small p c w pos h = by (is_negative w) h
+coefficient-small : (p c : ℕ) (w : List ℕ) → 0 < p → signed_number p w ≡ Ok c → c < p
+unfolding signed_number
+coefficient-small p c w pos h = by (has_minus w) h
   where
     by : (b : Bool) → (if b then (digits (drop 1 w) >>= λ n. Ok ((p - n % p) % p)) else (digits w >>= λ n. Ok (n % p))) ≡ Ok c → c < p
     by true k = let a = got (digits (drop 1 w)) (λ n. Ok ((p - n % p) % p)) c k in let e = ok-same ((p - a.0 % p) % p) c (Ok ((p - a.0 % p) % p)) (Ok c) refl refl a.2 in subst (λ x. x < p) e (residue p (p - a.0 % p) pos)
@@ -62,11 +61,11 @@ coefficient-small p c w pos h = by (is_negative w) h
 element-said : (p : ℕ) (letters : List ℕ) (t : Raw) (ws : List (List ℕ)) (u : Raw) → IsSaidTable p (length letters) t → element_of letters t ws ≡ Ok u → IsSaidTable p (length letters) u
 unfolding element_of
 element-said p letters t ws u h is =
-    let next : List (List ℕ) → Result Raw Code = λ vs. first_word vs >>= λ y. type_of (length letters) y.0 >>= λ ty. no_more y.1 >>= λ w. Ok (record t { elements = t.elements ++ ty ∷ [] }) in
-    let a = got (must (is_empty t.generators && is_empty t.entries)) (λ v. numbered (length t.elements + 1) ws >>= next) u is in
-    let b = got (numbered (length t.elements + 1) ws) next u a.2 in
-    let c = got (first_word b.0) (λ y. type_of (length letters) y.0 >>= λ ty. no_more y.1 >>= λ w. Ok (record t { elements = t.elements ++ ty ∷ [] })) u b.2 in
-    let d = got (type_of (length letters) c.0.0) (λ ty. no_more c.0.1 >>= λ w. Ok (record t { elements = t.elements ++ ty ∷ [] })) u c.2 in
+    let next : List (List ℕ) → Result Raw Code = λ vs. first_word vs >>= λ y. type_from (length letters) y.0 >>= λ ty. no_more y.1 >>= λ w. Ok (record t { elements = t.elements ++ ty ∷ [] }) in
+    let a = got (must_hold (is_empty t.generators && is_empty t.entries)) (λ v. after_number (length t.elements + 1) ws >>= next) u is in
+    let b = got (after_number (length t.elements + 1) ws) next u a.2 in
+    let c = got (first_word b.0) (λ y. type_from (length letters) y.0 >>= λ ty. no_more y.1 >>= λ w. Ok (record t { elements = t.elements ++ ty ∷ [] })) u b.2 in
+    let d = got (type_from (length letters) c.0.0) (λ ty. no_more c.0.1 >>= λ w. Ok (record t { elements = t.elements ++ ty ∷ [] })) u c.2 in
     let e = got (no_more c.0.1) (λ w. Ok (record t { elements = t.elements ++ d.0 ∷ [] })) u d.2 in
     let same = ok-same (record t { elements = t.elements ++ d.0 ∷ [] }) u (Ok (record t { elements = t.elements ++ d.0 ∷ [] })) (Ok u) refl refl e.2 in
     subst (IsSaidTable p (length letters)) same (record {
@@ -80,23 +79,23 @@ letter_below : (b : Bool) (letters : List ℕ) (x g : ℕ) → (if b then positi
 letter_below true letters x g h = (position-Some (λ y. y == x) letters g 0 h).0
 letter_below false letters x g h = absurd (cc)
 
-or-bad : {A : Type 0} (o : Option A) (x : A) → or_bad o ≡ Ok x → o ≡ Some x
+or-bad : {A : Type 0} (o : Option A) (x : A) → or_bad_line o ≡ Ok x → o ≡ Some x
 or-bad None x h = absurd (cc)
 or-bad (Some y) x h = cc
 
 generator-said : (p : ℕ) (letters : List ℕ) (t : Raw) (ws : List (List ℕ)) (u : Raw) → IsSaidTable p (length letters) t → generator_of letters t ws ≡ Ok u → IsSaidTable p (length letters) u
 unfolding generator_of
 generator-said p letters t ws u h is =
-    let last : ℕ → List ℕ × List (List ℕ) → Result Raw Code = λ g y. number y.0 >>= λ k. no_more y.1 >>= λ w. Ok (record t { generators = named t.generators g k }) in
-    let next : List ℕ × List (List ℕ) → Result Raw Code = λ x. or_bad (letter_number letters x.0) >>= λ g. must (nat_le (length t.generators) g) >>= λ v. first_word x.1 >>= last g in
-    let a = got (must (is_empty t.entries)) (λ v. first_word ws >>= next) u is in
+    let last : ℕ → List ℕ × List (List ℕ) → Result Raw Code = λ g y. number y.0 >>= λ k. no_more y.1 >>= λ w. Ok (record t { generators = with_generator t.generators g k }) in
+    let next : List ℕ × List (List ℕ) → Result Raw Code = λ x. or_bad_line (letter_number letters x.0) >>= λ g. must_hold (nat_le (length t.generators) g) >>= λ v. first_word x.1 >>= last g in
+    let a = got (must_hold (is_empty t.entries)) (λ v. first_word ws >>= next) u is in
     let b = got (first_word ws) next u a.2 in
-    let c = got (or_bad (letter_number letters b.0.0)) (λ g. must (nat_le (length t.generators) g) >>= λ v. first_word b.0.1 >>= last g) u b.2 in
-    let d = got (must (nat_le (length t.generators) c.0)) (λ v. first_word b.0.1 >>= last c.0) u c.2 in
+    let c = got (or_bad_line (letter_number letters b.0.0)) (λ g. must_hold (nat_le (length t.generators) g) >>= λ v. first_word b.0.1 >>= last g) u b.2 in
+    let d = got (must_hold (nat_le (length t.generators) c.0)) (λ v. first_word b.0.1 >>= last c.0) u c.2 in
     let e = got (first_word b.0.1) (last c.0) u d.2 in
-    let f = got (number e.0.0) (λ k. no_more e.0.1 >>= λ w. Ok (record t { generators = named t.generators c.0 k })) u e.2 in
-    let g = got (no_more e.0.1) (λ w. Ok (record t { generators = named t.generators c.0 f.0 })) u f.2 in
-    let same = ok-same (record t { generators = named t.generators c.0 f.0 }) u (Ok (record t { generators = named t.generators c.0 f.0 })) (Ok u) refl refl g.2 in
+    let f = got (number e.0.0) (λ k. no_more e.0.1 >>= λ w. Ok (record t { generators = with_generator t.generators c.0 k })) u e.2 in
+    let g = got (no_more e.0.1) (λ w. Ok (record t { generators = with_generator t.generators c.0 f.0 })) u f.2 in
+    let same = ok-same (record t { generators = with_generator t.generators c.0 f.0 }) u (Ok (record t { generators = with_generator t.generators c.0 f.0 })) (Ok u) refl refl g.2 in
     let low : length t.generators ≤ c.0 = grind (arith, nat_tests, kept (nat_le (length t.generators) c.0) d.0 d.1) in
     let high : c.0 < length letters = letter_below (length b.0.0 == 1) letters (slice_index b.0.0 0) c.0 (or-bad (letter_number letters b.0.0) c.0 c.1) in
     subst (IsSaidTable p (length letters)) same (record {
@@ -113,11 +112,11 @@ generator-said p letters t ws u h is =
       residues = h.residues;
     })
 
-entry-said : (p n : ℕ) (t : Raw) (ws : List (List ℕ)) (u : Raw) → 0 < p → IsSaidTable p n t → entry_of p t ws ≡ Ok u → IsSaidTable p n u
-unfolding entry_of
+entry-said : (p n : ℕ) (t : Raw) (ws : List (List ℕ)) (u : Raw) → 0 < p → IsSaidTable p n t → entry_from p t ws ≡ Ok u → IsSaidTable p n u
+unfolding entry_from
 entry-said p n t ws u pos h is =
     let made : ℕ → ℕ → ℕ → ℕ → Raw = λ i j k x. record t { entries = t.entries ++ record { left = i; right = j; to = k; coef = x } ∷ [] } in
-    let at_d : ℕ → ℕ → ℕ → List ℕ × List (List ℕ) → Result Raw Code = λ i j k d. coefficient p d.0 >>= λ x. no_more d.1 >>= λ w. Ok (made i j k x) in
+    let at_d : ℕ → ℕ → ℕ → List ℕ × List (List ℕ) → Result Raw Code = λ i j k d. signed_number p d.0 >>= λ x. no_more d.1 >>= λ w. Ok (made i j k x) in
     let at_c : ℕ → ℕ → List ℕ × List (List ℕ) → Result Raw Code = λ i j c. number c.0 >>= λ k. first_word c.1 >>= at_d i j k in
     let at_b : ℕ → List ℕ × List (List ℕ) → Result Raw Code = λ i b. number b.0 >>= λ j. first_word b.1 >>= at_c i j in
     let at_a : List ℕ × List (List ℕ) → Result Raw Code = λ a. number a.0 >>= λ i. first_word a.1 >>= at_b i in
@@ -128,7 +127,7 @@ entry-said p n t ws u pos h is =
     let c = got (first_word b.0.1) (at_c i.0 j.0) u j.2 in
     let k = got (number c.0.0) (λ k. first_word c.0.1 >>= at_d i.0 j.0 k) u c.2 in
     let d = got (first_word c.0.1) (at_d i.0 j.0 k.0) u k.2 in
-    let x = got (coefficient p d.0.0) (λ x. no_more d.0.1 >>= λ w. Ok (made i.0 j.0 k.0 x)) u d.2 in
+    let x = got (signed_number p d.0.0) (λ x. no_more d.0.1 >>= λ w. Ok (made i.0 j.0 k.0 x)) u d.2 in
     let w = got (no_more d.0.1) (λ w. Ok (made i.0 j.0 k.0 x.0)) u x.2 in
     let same = ok-same (made i.0 j.0 k.0 x.0) u (Ok (made i.0 j.0 k.0 x.0)) (Ok u) refl refl w.2 in
     subst (IsSaidTable p n) same (record {
@@ -142,7 +141,7 @@ row-said : (p : ℕ) (letters : List ℕ) (t : Raw) (w : List ℕ) (ws : List (L
 unfolding row_of
 row-said p letters t w ws u pos h is = by (is_word (codes "element") w) (is_word (codes "generator") w) (is_word (codes "entry") w) is
   where
-    by : (a b c : Bool) → (if a then element_of letters t ws else if b then generator_of letters t ws else if c then entry_of p t ws else Err ABadLine) ≡ Ok u → IsSaidTable p (length letters) u
+    by : (a b c : Bool) → (if a then element_of letters t ws else if b then generator_of letters t ws else if c then entry_from p t ws else Err ABadLine) ≡ Ok u → IsSaidTable p (length letters) u
     by true b c k = element-said p letters t ws u h k
     by false true c k = generator-said p letters t ws u h k
     by false false true k = entry-said p (length letters) t ws u pos h k
@@ -158,8 +157,8 @@ top-said : (p : ℕ) (letters : List ℕ) (ws : List (List ℕ)) (s : Said) → 
 unfolding table_of
 top-said p letters ws s is =
     let made : List ℕ → Raw = λ ty. record { top = ty; elements = []; generators = []; entries = [] } in
-    let a = got (first_word ws) (λ y. type_of (length letters) y.0 >>= λ ty. no_more y.1 >>= λ u. Ok (Table (made ty))) s is in
-    let b = got (type_of (length letters) a.0.0) (λ ty. no_more a.0.1 >>= λ u. Ok (Table (made ty))) s a.2 in
+    let a = got (first_word ws) (λ y. type_from (length letters) y.0 >>= λ ty. no_more y.1 >>= λ u. Ok (Table (made ty))) s is in
+    let b = got (type_from (length letters) a.0.0) (λ ty. no_more a.0.1 >>= λ u. Ok (Table (made ty))) s a.2 in
     let c = got (no_more a.0.1) (λ u. Ok (Table (made b.0))) s b.2 in
     let same = ok-same (Table (made b.0)) s (Ok (Table (made b.0))) (Ok s) refl refl c.2 in
     subst (IsSaid p (length letters)) same (record { top = type-long (length letters) a.0.0 b.0 b.1; elements = All-nil (λ e. length e ≡ length letters); generators = omega arith; residues = All-nil (λ (e : RawEntry). e.coef < p) })
@@ -183,7 +182,7 @@ say-said : (p : ℕ) (letters : List ℕ) (said next : Said) (ws : List (List �
 unfolding say
 say-said p letters Nothing next ws pos h is = heading-said p letters ws next is
 say-said p letters (Derivation ls) next ws pos h is =
-    let a = got (pushed ls (line_of p letters (length ls + 1) ws)) (λ ms. Ok (Derivation ms)) next is in
+    let a = got (pushed ls (line_from p letters (length ls + 1) ws)) (λ ms. Ok (Derivation ms)) next is in
     let same = ok-same (Derivation a.0) next (Ok (Derivation a.0)) (Ok next) refl refl a.2 in
     subst (IsSaid p (length letters)) same tt
 say-said p letters (Table t) next ws pos h is =
@@ -201,7 +200,7 @@ line-said p letters said next line pos h is = by (nat_lt 65536 (length line)) is
 -- ---- blocks
 
 -- the evidence has this, where it is a table
-abbrev IsRawIf : ℕ → ℕ → Result Evidence Fault → Type 0
+abbrev IsRawIf : ℕ → ℕ → Result Evidence BlockFault → Type 0
 IsRawIf p n (Ok (NotZero t)) = IsRaw p n t
 IsRawIf p n other = Unit {0}
 
@@ -219,11 +218,11 @@ closed-raw : (p n k : ℕ) (said : Said) (has_end : Bool) → IsSaid p n said �
 closed-raw p n k said true h = whole-raw p n k said h
 closed-raw p n k said false h = tt
 
-goes-raw : (p n k : ℕ) (r : Result Said Code) (more : Said → Result Evidence Fault) → ((s : Said) → r ≡ Ok s → IsRawIf p n (more s)) → IsRawIf p n (go_on k r more)
+goes-raw : (p n k : ℕ) (r : Result Said Code) (more : Said → Result Evidence BlockFault) → ((s : Said) → r ≡ Ok s → IsRawIf p n (more s)) → IsRawIf p n (go_on k r more)
 goes-raw p n k (Ok s) more h = h s refl
 goes-raw p n k (Err code) more h = tt
 
-skipped-raw : (p n k : ℕ) (skipped : Bool) (r : Result Said Code) (rest : Result Evidence Fault) (more : Said → Result Evidence Fault) → IsRawIf p n rest → ((s : Said) → r ≡ Ok s → IsRawIf p n (more s))
+skipped-raw : (p n k : ℕ) (skipped : Bool) (r : Result Said Code) (rest : Result Evidence BlockFault) (more : Said → Result Evidence BlockFault) → IsRawIf p n rest → ((s : Said) → r ≡ Ok s → IsRawIf p n (more s))
     → IsRawIf p n (if skipped then rest else go_on k r more)
 skipped-raw p n k true r rest more h g = h
 skipped-raw p n k false r rest more h g = goes-raw p n k r more g

@@ -2,9 +2,7 @@
 use Rattle.std.specs.Prelude.{◌≡◌, ℕ, Bool, List, None}
 use Rattle.alb_poly.specs.Poly.{Poly}
 use Rattle.alb_poly.specs.Instance.{Form}
-use Rattle.alb_problem.specs.Builder.{Builder}
-use Rattle.alb_problem.specs.Refusals.{finish_refusal}
-use Rattle.alb_problem.specs.Sound.{forms_of, IsSoundProblem}
+use Rattle.alb_problem.specs.Builder.{Builder, finish_refusal, forms_of, IsSoundProblem}
 use Rattle.alb_evidence.specs.Block.{evidence_of}
 use Rattle.alb_judge.specs.Verdict.{Verdict, IsVerdict, IsJustified}
 

@@ -9,13 +9,13 @@ use Rattle.alb_deriv.specs.Derivation as derivation
 use Rattle.alb_deriv.specs.Derivation.{claim_fault}
 use Rattle.alb_check.specs.Verdict as tables
 use Rattle.alb_evidence.specs.Block as block
-use Rattle.alb_evidence.specs.Block.{Evidence, Fault}
+use Rattle.alb_evidence.specs.Block.{Evidence, BlockFault}
 
 -- Why evidence is rejected: a line of its block; a line of the derivation, or the polynomial of the last one; the rule of shape
 -- that the table breaks, the identity that fails in it at some elements, or that the claim has the value zero there.
 pub data Rejection : Type 0 where
-  OfBlock : Fault → Rejection
-  OfDerivation : derivation.Fault → ℕ → Rejection
+  OfBlock : BlockFault → Rejection
+  OfDerivation : derivation.DerivationFault → ℕ → Rejection
   BadShape : ℕ → Rejection
   Fails : ℕ → List ℕ → Rejection
   ValueZero : Rejection
@@ -32,21 +32,21 @@ is_accepted other = true
 
 -- ---- verdicts
 
-abbrev pub of_derivation : Option (derivation.Fault × ℕ) → Verdict
+abbrev pub of_derivation : Option (derivation.DerivationFault × ℕ) → Verdict
 of_derivation None = AcceptedZero
 of_derivation (Some fault) = Rejected (OfDerivation fault.0 fault.1)
 
-abbrev pub of_table : tables.Verdict → Verdict
+abbrev pub of_table : tables.TableVerdict → Verdict
 of_table tables.Refuted = AcceptedNotZero
 of_table (tables.BadShape rule) = Rejected (BadShape rule)
 of_table (tables.Fails i ks) = Rejected (Fails i ks)
 of_table tables.ValueZero = Rejected ValueZero
 
 -- THE VERDICT on the evidence for a claim `g`, over `p` elements, within the target, and with the linearized identities `fs`
-abbrev pub IsVerdict : ℕ → List ℕ → List Form → Poly → Result Evidence Fault → Verdict → Type 0
+abbrev pub IsVerdict : ℕ → List ℕ → List Form → Poly → Result Evidence BlockFault → Verdict → Type 0
 IsVerdict p target fs g (Err fault) v = v ≡ Rejected (OfBlock fault)
 IsVerdict p target fs g (Ok (block.Zero lines)) v = v ≡ of_derivation (claim_fault p target fs g lines)
-IsVerdict p target fs g (Ok (block.NotZero t)) v = (w : tables.Verdict) × tables.IsVerdict p target fs t g w × (v ≡ of_table w)
+IsVerdict p target fs g (Ok (block.NotZero t)) v = (w : tables.TableVerdict) × tables.IsTableVerdict p target fs t g w × (v ≡ of_table w)
 
 -- WHAT A VERDICT SAYS: `accepted zero` stands only where the claim is a consequence of the identities in the textbook's sense: it
 -- equals a sum of multiples of values of the identities, at any polynomials, in contexts; `accepted not zero` only where it is none
@@ -58,8 +58,8 @@ IsJustified p identities g (Rejected r) = Unit {0}
 -- ---- texts
 
 -- a line that ends with a number
-abbrev pub numbered : List ℕ → ℕ → List ℕ
-numbered front k = named front k ++ codes "\n"
+abbrev pub numbered_line : List ℕ → ℕ → List ℕ
+numbered_line front k = named front k ++ codes "\n"
 
 -- the elements, and then the end of the line
 abbrev pub places_text : List ℕ → List ℕ
@@ -70,14 +70,14 @@ abbrev pub failure_text : ℕ → List ℕ → List ℕ
 failure_text i ks = codes "rejected 61 identity " ++ (decimal i ++ places_text ks)
 
 abbrev pub rejection_text : Rejection → List ℕ
-rejection_text (OfBlock (block.BadLine k)) = numbered (codes "rejected 70 line ") k
-rejection_text (OfBlock (block.BadNumber k)) = numbered (codes "rejected 71 line ") k
-rejection_text (OfDerivation derivation.BadIdentity k) = numbered (codes "rejected 50 line ") k
-rejection_text (OfDerivation derivation.WrongCount k) = numbered (codes "rejected 51 line ") k
-rejection_text (OfDerivation derivation.LaterLine k) = numbered (codes "rejected 52 line ") k
-rejection_text (OfDerivation derivation.OutOfType k) = numbered (codes "rejected 53 line ") k
+rejection_text (OfBlock (block.BadLine k)) = numbered_line (codes "rejected 70 line ") k
+rejection_text (OfBlock (block.BadNumber k)) = numbered_line (codes "rejected 71 line ") k
+rejection_text (OfDerivation derivation.BadIdentity k) = numbered_line (codes "rejected 50 line ") k
+rejection_text (OfDerivation derivation.WrongCount k) = numbered_line (codes "rejected 51 line ") k
+rejection_text (OfDerivation derivation.LaterLine k) = numbered_line (codes "rejected 52 line ") k
+rejection_text (OfDerivation derivation.OutOfType k) = numbered_line (codes "rejected 53 line ") k
 rejection_text (OfDerivation derivation.NotTheClaim k) = codes "rejected 54\n"
-rejection_text (BadShape rule) = numbered (codes "rejected 60 rule ") rule
+rejection_text (BadShape rule) = numbered_line (codes "rejected 60 rule ") rule
 rejection_text (Fails i ks) = failure_text i ks
 rejection_text ValueZero = codes "rejected 62\n"
 

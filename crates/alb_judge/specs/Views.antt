@@ -1,7 +1,7 @@
 -- What contracts see of verdicts, and what the judge does.
 use Rattle.std.specs.Prelude.{◌≡◌, List, Result, Ok, Err}
 use Rattle.alb_poly.specs.Poly.{Poly}
-use Rattle.alb_poly.specs.Rules.{forms}
+use Rattle.alb_poly.specs.Consequence.{forms}
 use Rattle.alb_problem.specs.declared.problem.Problem.{Problem}
 use Rattle.alb_deriv.specs.Derivation as derivation
 use Rattle.alb_deriv.specs.Derivation.{Line}
@@ -38,7 +38,7 @@ judgement verdict.NotZero = verdicts.AcceptedNotZero
 judgement (verdict.Rejected r) = verdicts.Rejected (rejection_of r)
 
 -- the verdict on what was read, for a claim `g` about a problem
-abbrev pub IsVerdictOn : Problem → Poly → Result block.Evidence block.Fault → Verdict → Type 0
+abbrev pub IsVerdictOn : Problem → Poly → Result block.Evidence block.BlockFault → Verdict → Type 0
 IsVerdictOn q g read v = verdicts.IsVerdict q.rules.field q.rules.target (forms q.rules) g read (judgement v)
 
 -- the verdict on a table, unless memory ran out
@@ -54,12 +54,12 @@ JudgesLines judged.NoMemory q g lines = Unit {0}
 JudgesLines other q g lines = ⊥
 
 -- the verdict on what was read of a block, unless it was not read whole or memory ran out
-abbrev pub Judges : Judged → Problem → Poly → Result Evidence EvidenceError → Type 0
-Judges (judged.Verdict v) q g (Ok e) = IsVerdictOn q g (Ok (evidence e)) v
-Judges (judged.Verdict v) q g (Err (given.BadLine k)) = IsVerdictOn q g (Err (block.BadLine k)) v
-Judges (judged.Verdict v) q g (Err (given.BadNumber k)) = IsVerdictOn q g (Err (block.BadNumber k)) v
-Judges (judged.Verdict v) q g (Err other) = ⊥
-Judges judged.ReadFault q g read = read ≡ Err given.ReadFault
-Judges judged.InputLimit q g read = read ≡ Err given.InputLimit
-Judges judged.NoMemory q g (Ok e) = Unit {0}
-Judges judged.NoMemory q g (Err e) = e ≡ given.NoMemory
+abbrev pub JudgeAnswers : Judged → Problem → Poly → Result Evidence EvidenceError → Type 0
+JudgeAnswers (judged.Verdict v) q g (Ok e) = IsVerdictOn q g (Ok (evidence e)) v
+JudgeAnswers (judged.Verdict v) q g (Err (given.BadLine k)) = IsVerdictOn q g (Err (block.BadLine k)) v
+JudgeAnswers (judged.Verdict v) q g (Err (given.BadNumber k)) = IsVerdictOn q g (Err (block.BadNumber k)) v
+JudgeAnswers (judged.Verdict v) q g (Err other) = ⊥
+JudgeAnswers judged.ReadFault q g read = read ≡ Err given.ReadFault
+JudgeAnswers judged.InputLimit q g read = read ≡ Err given.InputLimit
+JudgeAnswers judged.NoMemory q g (Ok e) = Unit {0}
+JudgeAnswers judged.NoMemory q g (Err e) = e ≡ given.NoMemory

@@ -5,7 +5,7 @@ ghost use Rattle.alb_check.specs.Raw.{raw, IsRaw};
 ghost use Rattle.alb_problem.specs.Problem.{IsAccepted};
 ghost use Rattle.alb_deriv.specs.Views.{line, IsLine};
 ghost use Rattle.alb_evidence.specs.Views.{IsEvidence};
-ghost use Rattle.alb_judge.specs.Views.{Judges, JudgesLines, JudgesTable};
+ghost use Rattle.alb_judge.specs.Views.{JudgeAnswers, JudgesLines, JudgesTable};
 
 use crate::verdict::{Rejection, Verdict};
 use alb_check::{RawTable, TableError, check_table};
@@ -75,7 +75,7 @@ pub fn judge(
     requires claim { AreResidues problem.now.rules.field claim.now }
     requires known { All (λ t. IsTrue (are_below (length problem.now.rules.target) t.1)) claim.now }
     requires evidence { IfOk given (IsEvidence problem.now.rules.field (length problem.now.rules.target)) }
-    ensures { Judges result problem.now claim.now given }
+    ensures { JudgeAnswers result problem.now claim.now given }
 {
     match given {
         Ok(Evidence::Zero(lines)) => judge_lines(alloc, problem, claim, &lines),

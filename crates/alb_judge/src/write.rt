@@ -2,7 +2,7 @@
 ghost use Rattle.std.specs.Prelude.{◌≡◌, ◌∷◌, ◌++◌, decimal};
 ghost use Rattle.std.specs.List.{flat_map};
 ghost use Rattle.alb_io.specs.Writes.{Writes};
-ghost use Rattle.alb_judge.specs.Verdict.{verdict_text, rejection_text, numbered, failure_text, places_text};
+ghost use Rattle.alb_judge.specs.Verdict.{verdict_text, rejection_text, numbered_line, failure_text, places_text};
 ghost use Rattle.alb_judge.specs.Views.{judgement, rejection_of};
 
 use crate::verdict::{Rejection, Verdict};
@@ -73,7 +73,7 @@ fn write_element<K: Sink>(sink: &mut K, element: u64) -> Result<(), WriteFault>
 
 // Writes a line that ends with a number.
 fn write_numbered<K: Sink>(sink: &mut K, front: &[u8], number: u64) -> Result<(), WriteFault>
-    ensures { Writes K.Sink sink.old sink.new (numbered front.now number) result }
+    ensures { Writes K.Sink sink.old sink.new (numbered_line front.now number) result }
 {
     write_named(sink, front, number)?;
     put_all(sink, b"\n")

@@ -12,7 +12,7 @@ use Rattle.alb_lex.specs.declared.token.TokenKind.{TokenKind}
 use Rattle.alb_lex.specs.declared.token.TokenKind.TheVariants as kinds
 use Rattle.alb_lex.specs.declared.error.LexError.{LexError}
 use Rattle.alb_lex.specs.declared.error.LexError.TheVariants as errors
-use Rattle.alb_lex.specs.Lexing.{is_blank, single, run, value_after, single_at, begins, tokens_from}
+use Rattle.alb_lex.specs.Lexing.{is_blank, single, digit_run, value_after, single_at, begins, tokens_from}
 use Rattle.alb_lex.specs.Results.{◌>>=◌}
 
 abbrev pub onto : List Token → Result (List Token) LexError → Result (List Token) LexError
@@ -32,20 +32,20 @@ blank_no_digit b e = grind (arith, nat_tests)
 digit_no_blank : (b : ℕ) → is_ascii_digit b ≡ true → is_blank b ≡ false
 digit_no_blank b e = grind (arith, nat_tests)
 
-pub run-bound : (bs : List ℕ) → run bs ≤ length bs
-unfolding run
+pub run-bound : (bs : List ℕ) → digit_run bs ≤ length bs
+unfolding digit_run
 run-bound [] = omega arith
 run-bound (b ∷ bs) = elim (cases_Bool (is_ascii_digit b)) [
   | inl e ↦ rw e (let h = run-bound bs in omega arith)
   | inr e ↦ rw e (omega arith)
 ]
 
-pub run-digit : (b : ℕ) (bs : List ℕ) → is_ascii_digit b ≡ true → run (b ∷ bs) ≡ suc (run bs)
-unfolding run
+pub run-digit : (b : ℕ) (bs : List ℕ) → is_ascii_digit b ≡ true → digit_run (b ∷ bs) ≡ suc (digit_run bs)
+unfolding digit_run
 run-digit b bs e = rw e refl
 
-pub run-other : (b : ℕ) (bs : List ℕ) → is_ascii_digit b ≡ false → run (b ∷ bs) ≡ 0
-unfolding run
+pub run-other : (b : ℕ) (bs : List ℕ) → is_ascii_digit b ≡ false → digit_run (b ∷ bs) ≡ 0
+unfolding digit_run
 run-other b bs e = rw e refl
 
 pub value-digit : (n b : ℕ) (bs : List ℕ) → is_ascii_digit b ≡ true → value_after n (b ∷ bs) ≡ value_after (n * 10 + (b - 48)) bs
@@ -56,11 +56,11 @@ pub value-other : (n b : ℕ) (bs : List ℕ) → is_ascii_digit b ≡ false →
 unfolding value_after
 value-other n b bs e = rw e refl
 
-pub value-end : (n : ℕ) (bs : List ℕ) → run bs ≡ 0 → value_after n bs ≡ n
-unfolding value_after run
+pub value-end : (n : ℕ) (bs : List ℕ) → digit_run bs ≡ 0 → value_after n bs ≡ n
+unfolding value_after digit_run
 value-end n [] h = refl
 value-end n (b ∷ bs) h = elim (cases_Bool (is_ascii_digit b)) [
-  | inl e ↦ absurd (let k : suc (run bs) ≡ 0 = sym (run-digit b bs e) ∙ h in omega arith)
+  | inl e ↦ absurd (let k : suc (digit_run bs) ≡ 0 = sym (run-digit b bs e) ∙ h in omega arith)
   | inr e ↦ value-other n b bs e
 ]
 
@@ -79,20 +79,20 @@ unfolding tokens_from
 same_start k b bs e = rw e refl
 
 -- after a digit, the rest of its run gives no token
-skip : (k : ℕ) (bs : List ℕ) → tokens_from true k bs ≡ tokens_from false (k + run bs) (drop (run bs) bs)
-unfolding tokens_from run
+skip : (k : ℕ) (bs : List ℕ) → tokens_from true k bs ≡ tokens_from false (k + digit_run bs) (drop (digit_run bs) bs)
+unfolding tokens_from digit_run
 skip k [] = refl
 skip k (b ∷ bs) = elim (cases_Bool (is_ascii_digit b)) [
-  | inl e ↦ (let q : (k + 1) + run bs ≡ k + suc (run bs) = omega arith in
+  | inl e ↦ (let q : (k + 1) + digit_run bs ≡ k + suc (digit_run bs) = omega arith in
       let n : begins true k b bs ≡ Ok [] = rw (digit_no_blank b e, e) refl in
       first_step true k b bs [] n ∙ onto-nil (tokens_from (is_ascii_digit b) (k + 1) bs) ∙ ap (λ x. tokens_from x (k + 1) bs) e ∙ skip (k + 1) bs
-      ∙ ap (λ j. tokens_from false j (drop (run bs) bs)) q ∙ ap (λ n. tokens_from false (k + n) (drop n (b ∷ bs))) (sym (run-digit b bs e)))
+      ∙ ap (λ j. tokens_from false j (drop (digit_run bs) bs)) q ∙ ap (λ n. tokens_from false (k + n) (drop n (b ∷ bs))) (sym (run-digit b bs e)))
   | inr e ↦ (let q : k ≡ k + 0 = omega arith in
       same_start k b bs e ∙ ap (λ j. tokens_from false j (b ∷ bs)) q ∙ ap (λ n. tokens_from false (k + n) (drop n (b ∷ bs))) (sym (run-other b bs e)))
 ]
 
 abbrev pub number_token : ℕ → List ℕ → Token
-number_token k bs = record { kind = kinds.Number (value_after 0 bs); from = k; to = k + run bs }
+number_token k bs = record { kind = kinds.Number (value_after 0 bs); from = k; to = k + digit_run bs }
 
 abbrev pub single_token : ℕ → TokenKind → Token
 single_token k kind = record { kind = kind; from = k; to = k + 1 }
@@ -111,18 +111,18 @@ module _ (total : Result (List Token) LexError) (front : List Token) (k b : ℕ)
       let n : begins false k b bs ≡ Ok [] = rw e refl in
       record { same = ap (onto front) (sym (first_step false k b bs [] n ∙ onto-nil (tokens_from (is_ascii_digit b) (k + 1) bs) ∙ ap (λ x. tokens_from x (k + 1) bs) (blank_no_digit b e))) ∙ so_far.same }
 
-  pub after_number : is_ascii_digit b ≡ true → run (b ∷ bs) ≤ 18 → Goes total (front ++ number_token k (b ∷ bs) ∷ []) (k + run (b ∷ bs)) (drop (run (b ∷ bs)) (b ∷ bs))
+  pub after_number : is_ascii_digit b ≡ true → digit_run (b ∷ bs) ≤ 18 → Goes total (front ++ number_token k (b ∷ bs) ∷ []) (k + digit_run (b ∷ bs)) (drop (digit_run (b ∷ bs)) (b ∷ bs))
   after_number e few =
-      let f : nat_lt 18 (run (b ∷ bs)) ≡ false = le-ltb 18 (run (b ∷ bs)) few in
+      let f : nat_lt 18 (digit_run (b ∷ bs)) ≡ false = le-ltb 18 (digit_run (b ∷ bs)) few in
       let n : begins false k b bs ≡ Ok (number_token k (b ∷ bs) ∷ []) = rw (digit_no_blank b e, e, f) refl in
-      let q : (k + 1) + run bs ≡ k + suc (run bs) = omega arith in
-      let rest = skip (k + 1) bs ∙ ap (λ j. tokens_from false j (drop (run bs) bs)) q ∙ ap (λ n. tokens_from false (k + n) (drop n (b ∷ bs))) (sym (run-digit b bs e)) in
+      let q : (k + 1) + digit_run bs ≡ k + suc (digit_run bs) = omega arith in
+      let rest = skip (k + 1) bs ∙ ap (λ j. tokens_from false j (drop (digit_run bs) bs)) q ∙ ap (λ n. tokens_from false (k + n) (drop n (b ∷ bs))) (sym (run-digit b bs e)) in
       let one = first_step false k b bs _ n ∙ ap (onto (number_token k (b ∷ bs) ∷ [])) (ap (λ x. tokens_from x (k + 1) bs) e ∙ rest) in
       record { same = sym (ap (onto front) one ∙ onto-onto front (number_token k (b ∷ bs) ∷ []) _) ∙ so_far.same }
 
-  pub at_long : is_ascii_digit b ≡ true → 18 < run (b ∷ bs) → total ≡ Err (errors.NumberTooLong k)
+  pub at_long : is_ascii_digit b ≡ true → 18 < digit_run (b ∷ bs) → total ≡ Err (errors.NumberTooLong k)
   at_long e many =
-      let f : nat_lt 18 (run (b ∷ bs)) ≡ true = lt-ltb 18 (run (b ∷ bs)) many in
+      let f : nat_lt 18 (digit_run (b ∷ bs)) ≡ true = lt-ltb 18 (digit_run (b ∷ bs)) many in
       let n : begins false k b bs ≡ Err (errors.NumberTooLong k) = rw (digit_no_blank b e, e, f) refl in
       sym so_far.same ∙ ap (onto front) (first_fault false k b bs _ n)
 
@@ -147,13 +147,13 @@ module _ (text : List ℕ) (i : ℕ) (h : i < length text) where
   split_digit : drop i text ≡ get_or text i 0 ∷ drop (i + 1) text
   split_digit = rw (add-one, drop-cons text i 0)
 
-  pub run-more : is_ascii_digit (get_or text i 0) ≡ true → run (drop i text) ≡ suc (run (drop (i + 1) text))
-  run-more e = ap run split_digit ∙ run-digit _ _ e
+  pub run-more : is_ascii_digit (get_or text i 0) ≡ true → digit_run (drop i text) ≡ suc (digit_run (drop (i + 1) text))
+  run-more e = ap digit_run split_digit ∙ run-digit _ _ e
 
-  pub run-stops : is_ascii_digit (get_or text i 0) ≡ false → run (drop i text) ≡ 0
-  run-stops e = ap run split_digit ∙ run-other _ _ e
+  pub run-stops : is_ascii_digit (get_or text i 0) ≡ false → digit_run (drop i text) ≡ 0
+  run-stops e = ap digit_run split_digit ∙ run-other _ _ e
 
-  pub is_digit : 0 < run (drop i text) → is_ascii_digit (get_or text i 0) ≡ true
+  pub is_digit : 0 < digit_run (drop i text) → is_ascii_digit (get_or text i 0) ≡ true
   is_digit pos = elim (cases_Bool (is_ascii_digit (get_or text i 0))) [
     | inl e ↦ e
     | inr e ↦ absurd (let k = run-stops e in omega arith)
@@ -162,9 +162,9 @@ module _ (text : List ℕ) (i : ℕ) (h : i < length text) where
   pub value-more : (n : ℕ) → is_ascii_digit (get_or text i 0) ≡ true → value_after n (drop i text) ≡ value_after (n * 10 + (get_or text i 0 - 48)) (drop (i + 1) text)
   value-more n e = ap (value_after n) split_digit ∙ value-digit n _ _ e
 
-pub run-past : (text : List ℕ) (i : ℕ) → length text ≤ i → run (drop i text) ≡ 0
-unfolding run
-run-past text i h = ap run (nil_from_length (drop i text) (omega (arith, length-drop i text)))
+pub run-past : (text : List ℕ) (i : ℕ) → length text ≤ i → digit_run (drop i text) ≡ 0
+unfolding digit_run
+run-past text i h = ap digit_run (nil_from_length (drop i text) (omega (arith, length-drop i text)))
 
 pub digit_range : (b : ℕ) → is_ascii_digit b ≡ true → (48 ≤ b) × (b ≤ 57)
 digit_range b e = (grind (arith, nat_tests), grind (arith, nat_tests))
@@ -176,12 +176,12 @@ pub small_fits : (value i : ℕ) → value < 10 ^ i → i < 18 → value * 10 + 
 small_fits value i h k = let ten : 0 < 10 = omega arith in let less : i ≤ 17 = omega arith in let e : 10 ^ i ≤ 10 ^ 17 = pow-le-pow_right ten {i = i} {j = 17} less in omega arith
 
 pub after_number_at : (total : Result (List Token) LexError) (front : List Token) (line : List ℕ) (at : ℕ) (now : List Token) (digits value : ℕ) → at < length line →
-    Goes total front (at + 1) (drop at line) → is_ascii_digit (get_or line at 0) ≡ true → digits ≡ run (drop at line) → value ≡ value_after 0 (drop at line) → digits ≤ 18 →
+    Goes total front (at + 1) (drop at line) → is_ascii_digit (get_or line at 0) ≡ true → digits ≡ digit_run (drop at line) → value ≡ value_after 0 (drop at line) → digits ≤ 18 →
     now ≡ front ++ record { kind = kinds.Number value; from = at + 1; to = (at + 1) + digits } ∷ [] → Goes total now ((at + digits) + 1) (drop (at + digits) line)
 after_number_at total front line at now digits value h so_far e d v few n =
     let here = cut line at h in
     let far = subst (Goes total front (at + 1)) here so_far in
-    let d2 : digits ≡ run (get_or line at 0 ∷ drop (at + 1) line) = d ∙ ap run here in
+    let d2 : digits ≡ digit_run (get_or line at 0 ∷ drop (at + 1) line) = d ∙ ap digit_run here in
     let v2 : value ≡ value_after 0 (get_or line at 0 ∷ drop (at + 1) line) = v ∙ ap (value_after 0) here in
     let all = after_number total front (at + 1) (get_or line at 0) (drop (at + 1) line) far e (omega arith) in
     let t : now ≡ front ++ number_token (at + 1) (get_or line at 0 ∷ drop (at + 1) line) ∷ [] = rw (← d2, ← v2) n in
@@ -190,11 +190,11 @@ after_number_at total front line at now digits value h so_far e d v few n =
     rw (t, ← r, ← k) (rw d2 all)
 
 -- the number begins with this digit, so it is not empty
-pub run_positive : (line : List ℕ) (at : ℕ) → at < length line → is_ascii_digit (get_or line at 0) ≡ true → 0 < run (drop at line)
+pub run_positive : (line : List ℕ) (at : ℕ) → at < length line → is_ascii_digit (get_or line at 0) ≡ true → 0 < digit_run (drop at line)
 run_positive line at h e = omega (arith, run-more line at h e)
 
 -- where digits are left, the place is within the text
-pub run_within : (text : List ℕ) (i : ℕ) → 0 < run (drop i text) → i < length text
+pub run_within : (text : List ℕ) (i : ℕ) → 0 < digit_run (drop i text) → i < length text
 run_within text i pos = omega (arith, run-bound (drop i text), length-drop i text)
 
 -- a token of one byte, and the tokens behind it

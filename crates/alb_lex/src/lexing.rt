@@ -1,6 +1,6 @@
 ghost use Rattle.std.specs.Prelude.{◌≡◌, ◌+◌, ◌<◌, ◌≤◌, ◌^◌, false, length, drop, [], ◌∷◌};
 ghost use Rattle.std.specs.Char.{is_ascii_digit};
-ghost use Rattle.alb_lex.specs.Lexing.{single, run, value_after, tokens_from, Gives};
+ghost use Rattle.alb_lex.specs.Lexing.{single, digit_run, value_after, tokens_from, Gives};
 
 use crate::error::LexError;
 use crate::text::{is_blank, text_from};
@@ -29,7 +29,7 @@ fn single(b: u8) -> Option<TokenKind>
 
 // How many digits stand at the front.
 fn run(text: &[u8]) -> usize
-    ensures value { result ≡ run text.now }
+    ensures value { result ≡ digit_run text.now }
     ensures bound { result ≤ length text.now }
 {
     let mut n = 0;
@@ -42,7 +42,7 @@ fn run(text: &[u8]) -> usize
 // The value of the digits at the front, at most 18.
 fn number(text: &[u8], digits: usize) -> u64
     requires few { digits ≤ 18 }
-    requires run { digits ≡ run text.now }
+    requires digit_run { digits ≡ digit_run text.now }
     ensures { result ≡ value_after 0 text.now }
 {
     let mut value = 0;

@@ -1,8 +1,7 @@
 //! Blanks, pieces of a text, and words.
 
 ghost use Rattle.std.specs.Prelude.{◌≡◌, ◌≤◌, length, take, drop};
-ghost use Rattle.alb_lex.specs.Lexing.{is_blank};
-ghost use Rattle.alb_lex.specs.Words.{is_word};
+ghost use Rattle.alb_lex.specs.Lexing.{is_blank, is_word};
 
 /// Whether a byte is a space, a tab or a carriage return.
 pub fn is_blank(b: u8) -> bool

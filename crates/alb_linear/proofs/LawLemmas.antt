@@ -7,7 +7,7 @@ use Rattle.alb_mono.proofs.ListingLemmas.{each-weaker}
 use Rattle.alb_mono.specs.Tree.{Tree, degree, type_of, AreBelow, cmp_monos, same_tree}
 use Rattle.alb_mono.proofs.Leaves.{sum-type_of}
 use Rattle.alb_poly.specs.Poly.{Poly, list_eq}
-use Rattle.alb_poly.specs.Identity.{HasType, IsHomogeneous}
+use Rattle.alb_poly.specs.Instance.{HasType, IsHomogeneous}
 use Rattle.alb_poly.proofs.Types.{list_eq-itself, has_type-is, has_type-whole}
 use Rattle.alb_poly.proofs.Terms.{canonical-nonzero, of_terms}
 use Rattle.alb_linear.specs.Identity.{leading_type, other_term, type_fault, degree_fault, identity_fault, DegreeOne}

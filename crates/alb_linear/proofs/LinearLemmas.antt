@@ -1,29 +1,24 @@
 -- The terms of a linearization.
-use Rattle.std.proofs.Common.{◌≡◌, ℕ, zero, suc, ◌+◌, ◌*◌, ◌<◌, ◌≤◌, true, false, List, [], ◌∷◌, ◌++◌, map, take, drop, length, get_or, sum, Option, Some, None, sym, refl, ap, ◌∙◌, subst, arith, add-one, eqb, ltb, ◌==◌, inl, inr, ◌-◌, take-append-drop}
+use Rattle.std.proofs.Common.{◌≡◌, ℕ, zero, suc, ◌+◌, ◌*◌, ◌<◌, ◌≤◌, true, false, List, [], ◌∷◌, ◌++◌, map, take, drop, length, get_or, sum, Option, Some, None, sym, refl, ap, ◌∙◌, subst, arith, add-one, eqb, ltb, ◌==◌, inl, inr, ◌-◌, take-append-drop, get_or-set_same, get_or-set_other}
 use Rattle.std.specs.List.{All, flat_map, range_with_len, sum_by}
-use Rattle.std.proofs.Common.{get_or-set_same, get_or-set_other}
-use Rattle.std.proofs.Math.ListN.{set}
+use Rattle.std.proofs.Math.ListN.{set, get_or-map as get_map}
 use Rattle.std.proofs.lemmas.Bool.{cases_Bool, cases_eq, false≢true, eq-eqb}
 use Rattle.std.proofs.lemmas.Bool.Decides.{nat_tests}
 use Rattle.std.proofs.lemmas.List.{length-map, get_or-map, map-append, take_more}
 use Rattle.std.proofs.lemmas.List.FromFn.{length-range_with_len}
-use Rattle.std.proofs.Math.ListN.{get_or-map as get_map}
 use Rattle.std.proofs.lemmas.List.Sums.{sum_by_more, sum_by-append}
 use Rattle.std.proofs.Math.Nat.{mul-le-mul_left, mul-le-mul_right}
 use Rattle.gf_sums.specs.Sums.{total, reindex}
 use Rattle.gf_sums.proofs.Totals.{total-equal, total-map}
 use Rattle.alb_mono.specs.Listing.{Each}
 use Rattle.alb_mono.proofs.ListingLemmas.{each-always}
-use Rattle.alb_mono.specs.Tree.{Tree, leaf, node, degree, count, type_of, AreBelow, are_below}
-use Rattle.alb_mono.specs.Mono.{tree}
+use Rattle.alb_mono.specs.Tree.{Tree, leaf, node, degree, count, type_of, AreBelow, are_below, tree}
 use Rattle.alb_mono.specs.declared.mono.Mono.{Mono}
 use Rattle.alb_mono.proofs.Leaves.{below_from_test, length-type_of}
-use Rattle.alb_poly.specs.Poly.{Poly, list_eq, AreResidues}
-use Rattle.alb_poly.specs.Normal.{normal}
+use Rattle.alb_poly.specs.Poly.{Poly, list_eq, AreResidues, normal}
 use Rattle.alb_poly.specs.Terms.{term, terms}
 use Rattle.alb_poly.specs.declared.term.Term.{Term}
-use Rattle.alb_poly.specs.Instance.{fill, leaves, numbered, first_number, arrangements, positions, linearization, IsMultilinear}
-use Rattle.alb_poly.specs.Identity.{HasType, IsHomogeneous}
+use Rattle.alb_poly.specs.Instance.{fill, leaves, numbered, first_number, arrangements, positions, linearization, IsMultilinear, HasType, IsHomogeneous}
 use Rattle.alb_poly.proofs.Orders.{map-map, arrangements-map}
 use Rattle.alb_poly.proofs.Multilinear.{sum_cons, flat-each, each-flat, each-map, each-from, leaves-multilinear, multilinear-below, linearization-multilinear}
 use Rattle.alb_poly.proofs.Extra.{total-sum_by}

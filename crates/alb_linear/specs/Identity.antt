@@ -1,11 +1,9 @@
 -- Which polynomials are homogeneous identities, and what their linearizations are.
 use Rattle.std.specs.Prelude.{◌≡◌, ℕ, zero, suc, ◌*◌, ◌<◌, ◌≤◌, ◌==◌, nat_lt, if◌then◌else◌, List, [], ◌∷◌, length, sum, Option, None, Some, Result, Ok, Err}
-use Rattle.alb_mono.specs.Tree.{Tree, type_of}
-use Rattle.alb_mono.specs.Mono.{tree}
-use Rattle.alb_poly.specs.Poly.{Poly, list_eq, AreResidues}
-use Rattle.alb_poly.specs.Normal.{normal}
+use Rattle.alb_mono.specs.Tree.{Tree, type_of, tree}
+use Rattle.alb_poly.specs.Poly.{Poly, list_eq, AreResidues, normal}
 use Rattle.alb_poly.specs.Instance.{Form, linearization, IsMultilinearForm}
-use Rattle.alb_poly.specs.Rules.{form}
+use Rattle.alb_poly.specs.Consequence.{form}
 use Rattle.alb_poly.specs.declared.rules.Linear.{Linear}
 use Rattle.alb_linear.specs.declared.identity.Identity.{Identity}
 use Rattle.alb_linear.specs.declared.error.IdentityError.{IdentityError}
@@ -22,21 +20,21 @@ other_term e [] = None
 other_term e (t ∷ f) = if list_eq (type_of 26 t.1) e then other_term e f else Some t.1
 
 -- the rules that an identity may break
-pub data Fault : Type 0 where
-  Zero : Fault
-  NotHomogeneous : Tree → Fault
-  DegreeOne : Fault
-  DegreeOver8 : Fault
+pub data IdentityFault : Type 0 where
+  Zero : IdentityFault
+  NotHomogeneous : Tree → IdentityFault
+  DegreeOne : IdentityFault
+  DegreeOver8 : IdentityFault
 
-abbrev pub degree_fault : ℕ → Option Fault
+abbrev pub degree_fault : ℕ → Option IdentityFault
 degree_fault n = if n == 1 then Some DegreeOne else if nat_lt 8 n then Some DegreeOver8 else None
 
-abbrev pub type_fault : List ℕ → Option Tree → Option Fault
+abbrev pub type_fault : List ℕ → Option Tree → Option IdentityFault
 type_fault e (Some m) = Some (NotHomogeneous m)
 type_fault e None = degree_fault (sum e)
 
 -- the first rule that a polynomial breaks
-abbrev pub identity_fault : Poly → Option Fault
+abbrev pub identity_fault : Poly → Option IdentityFault
 identity_fault [] = Some Zero
 identity_fault (t ∷ f) = type_fault (type_of 26 t.1) (other_term (type_of 26 t.1) f)
 

@@ -3,10 +3,8 @@ use Rattle.std.specs.Prelude.{◌≡◌, ◌≢◌, ◌≤◌, ◌%◌, ◌↔�
 use Rattle.gf_sums.specs.Sums.{coefficient, IsCanonical}
 use Rattle.alb_mono.specs.Listing.{Each}
 use Rattle.alb_mono.specs.Tree.{Tree, AreBelow, cmp_monos, same_tree}
-use Rattle.alb_poly.specs.Poly.{Poly, IsSamePoly}
-use Rattle.alb_poly.specs.Normal.{normal}
-use Rattle.alb_poly.specs.Identity.{HasType, IsHomogeneous}
-use Rattle.alb_poly.specs.Instance.{identity_instance, instance, linearization}
+use Rattle.alb_poly.specs.Poly.{Poly, IsSamePoly, normal}
+use Rattle.alb_poly.specs.Instance.{HasType, IsHomogeneous, identity_instance, instance, linearization}
 use Rattle.alb_linear.specs.Identity.{identity_fault}
 
 -- A polynomial over the 26 letters with some coefficient that is not 0 modulo `p`, where all monomials with such a coefficient

@@ -1,6 +1,5 @@
 ghost use Rattle.std.specs.Prelude.{◌≡◌, ◌<◌, ◌≤◌, ℕ, IfSome, MatchOption, length, slice_index_or, sum};
-ghost use Rattle.alb_mono.specs.Mono.{tree};
-ghost use Rattle.alb_mono.specs.Tree.{Tree};
+ghost use Rattle.alb_mono.specs.Tree.{tree, Tree};
 ghost use Rattle.alb_poly.specs.Terms.{terms};
 ghost use Rattle.alb_linear.specs.Identity.{leading_type, other_term, variables};
 

@@ -1,10 +1,8 @@
 ghost use Rattle.std.specs.Prelude.{◌≡◌, ◌≤◌, IsTrue, IfOk, All, length, map, sum_by};
 ghost use Rattle.gf_sums.specs.Sums.{reindex};
-ghost use Rattle.alb_mono.specs.Mono.{tree};
-ghost use Rattle.alb_mono.specs.Tree.{are_below, degree};
-ghost use Rattle.alb_poly.specs.Poly.{AreResidues};
-ghost use Rattle.alb_poly.specs.Normal.{normal};
-ghost use Rattle.alb_poly.specs.Rules.{form};
+ghost use Rattle.alb_mono.specs.Tree.{tree, are_below, degree};
+ghost use Rattle.alb_poly.specs.Poly.{AreResidues, normal};
+ghost use Rattle.alb_poly.specs.Consequence.{form};
 ghost use Rattle.alb_poly.specs.Terms.{terms};
 ghost use Rattle.alb_poly.specs.Instance.{fill, instance};
 ghost use Rattle.alb_linear.specs.Identity.{IsLinearized};

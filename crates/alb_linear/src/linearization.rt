@@ -1,9 +1,7 @@
 ghost use Rattle.std.specs.Prelude.{◌≡◌, ◌+◌, ◌*◌, ◌<◌, ◌≤◌, ◌++◌, ℕ, IsTrue, IsPermutation, IfOk, OnOk, All, length, map, slice_index, sum};
 ghost use Rattle.std.specs.List.{flat_map};
-ghost use Rattle.alb_mono.specs.Mono.{tree};
-ghost use Rattle.alb_mono.specs.Tree.{are_below, count, degree, leaf};
-ghost use Rattle.alb_poly.specs.Poly.{AreResidues};
-ghost use Rattle.alb_poly.specs.Normal.{normal};
+ghost use Rattle.alb_mono.specs.Tree.{tree, are_below, count, degree, leaf};
+ghost use Rattle.alb_poly.specs.Poly.{AreResidues, normal};
 ghost use Rattle.alb_poly.specs.Terms.{terms};
 ghost use Rattle.alb_poly.specs.Instance.{fill, first_number, numbered};
 ghost use Rattle.alb_linear.specs.Identity.{IsIdentity, Linearizes, factorial, factorials};

@@ -9,7 +9,7 @@ use Rattle.std.proofs.lemmas.List.Folds.{Any-from_list_any}
 use Rattle.std.proofs.lemmas.List.FromFn.{length-range_with_len, get_or-range_with_len}
 use Rattle.std.proofs.lemmas.Map.Made.{IsDistinct-from_AllPairs}
 use Rattle.std.proofs.lemmas.Map.Steps.{length-le_from_distinct_below}
-use Rattle.alb_mono.specs.Letters.{AreLetters, alphabet}
+use Rattle.alb_mono.specs.Tree.{AreLetters, alphabet}
 
 not_equal : (a b : ℕ) → a ≢ b → eqb a b ≡ false
 not_equal a b h = grind (arith, nat_tests)

@@ -2,9 +2,8 @@
 use Rattle.std.specs.Prelude.{◌≡◌, ℕ, List}
 use Rattle.std.specs.declared.cmp.Ordering.{Ordering}
 use Rattle.std.specs.declared.cmp.Ordering.TheVariants.{Less, Equal}
-use Rattle.alb_mono.specs.Tree.{Tree, node, type_of, cmp_trees, cmp_types}
+use Rattle.alb_mono.specs.Tree.{Tree, node, type_of, cmp_trees, cmp_types, types_of, IsTypeWithin, splits, IsSplit}
 use Rattle.alb_mono.specs.Listing.{IsListing}
-use Rattle.alb_mono.specs.Types.{types_of, IsTypeWithin, splits, IsSplit}
 
 -- what compares as equal is one monomial
 abbrev pub EqualAreOne : (Tree → Tree → Ordering) → Type 0

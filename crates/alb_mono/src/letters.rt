@@ -1,5 +1,5 @@
 ghost use Rattle.std.specs.Prelude.{◌≡◌, ◌==◌, ◌≤◌, ◌<◌, ◌≢◌, All, AllPairs, length, position, slice_index, IfSome};
-ghost use Rattle.alb_mono.specs.Letters.{AreLetters, alphabet};
+ghost use Rattle.alb_mono.specs.Tree.{AreLetters, alphabet};
 
 use arrayvec::ArrayVec;
 use std::marker::Model;
@@ -12,7 +12,7 @@ pub struct Letters {
 
 impl Model for Letters {
     ghost use Rattle.std.specs.Prelude.{List, ℕ};
-    ghost use Rattle.alb_mono.specs.Letters.{AreLetters};
+    ghost use Rattle.alb_mono.specs.Tree.{AreLetters};
 
     ghost Value = { List ℕ };
 

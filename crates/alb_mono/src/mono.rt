@@ -1,6 +1,5 @@
 ghost use Rattle.std.specs.Prelude.{◌≡◌, ◌+◌, ◌<◌, ◌≤◌, IsTrue, IfOk, slice_get, slice_index, length, ℕ};
-ghost use Rattle.alb_mono.specs.Tree.{degree, node, leaf, leaf_list, cmp_monos, cmp_trees, cmp_types, same_tree, type_of, type_plus, are_below};
-ghost use Rattle.alb_mono.specs.Mono.{tree};
+ghost use Rattle.alb_mono.specs.Tree.{degree, node, leaf, leaf_list, cmp_monos, cmp_trees, cmp_types, same_tree, type_of, type_plus, are_below, tree};
 
 use crate::{Multi, NoMemory};
 use std::alloc::Global;

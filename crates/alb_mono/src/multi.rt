@@ -1,6 +1,5 @@
 ghost use Rattle.std.specs.Prelude.{◌≡◌, ◌+◌, ◌<◌, ◌≤◌, ◌↔◌, ◌^◌, ◌-◌, [], ◌∷◌, ◌++◌, IsTrue, All, take, length, sum, true, slice_set, slice_index, replicate};
-ghost use Rattle.alb_mono.specs.Tree.{cmp_types, type_le, type_plus};
-ghost use Rattle.alb_mono.specs.Types.{type_minus};
+ghost use Rattle.alb_mono.specs.Tree.{cmp_types, type_le, type_plus, type_minus};
 
 use arrayvec::ArrayVec;
 use std::cmp::Ordering;

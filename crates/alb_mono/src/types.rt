@@ -1,6 +1,6 @@
 ghost use Rattle.std.specs.Prelude.{◌≡◌, ◌+◌, ◌<◌, ◌≤◌, ◌++◌, IfOk, OnOk, length, map, sum};
 ghost use Rattle.std.specs.List.{flat_map};
-ghost use Rattle.alb_mono.specs.Types.{types_of, type_minus, splits};
+ghost use Rattle.alb_mono.specs.Tree.{types_of, type_minus, splits};
 
 use crate::{Multi, NoMemory};
 use std::alloc::Global;

@@ -15,11 +15,9 @@ use Rattle.gf_sums.specs.Sums.{weigh}
 use Rattle.gf_sums.proofs.Totals.{total-map}
 use Rattle.gf_sums.proofs.Alike.{equal}
 use Rattle.alb_mono.specs.Listing.{Each}
-use Rattle.alb_mono.specs.Mono.{tree}
-use Rattle.alb_mono.specs.Tree.{Tree, cmp_monos, same_tree}
+use Rattle.alb_mono.specs.Tree.{tree, Tree, cmp_monos, same_tree}
 use Rattle.alb_mono.proofs.Order.{cmp_monos_total}
-use Rattle.alb_poly.specs.Poly.{Poly, AreResidues}
-use Rattle.alb_poly.specs.Normal.{placed, put, normal}
+use Rattle.alb_poly.specs.Poly.{Poly, AreResidues, placed, put, normal}
 use Rattle.alb_poly.specs.Sorted.{comes_first, AreSorted, in_front}
 use Rattle.alb_poly.specs.Terms.{term, terms}
 use Rattle.alb_poly.specs.declared.term.Term.{Term}

@@ -7,20 +7,19 @@ use Rattle.std.proofs.lemmas.Bool.{eq-eqb}
 use Rattle.gf_field.proofs.Mod.{same}
 use Rattle.alb_mono.specs.Tree.{same_tree, Tree, leaf, node}
 use Rattle.alb_mono.proofs.Order.{same_tree-sound}
-use Rattle.gf_sums.specs.Sums.{weigh, scale, reindex, Tells}
+use Rattle.gf_sums.specs.Sums.{weigh, scale, reindex, TellsApart}
 use Rattle.gf_sums.proofs.Totals.{weigh-equal, weigh-append, weigh-scale}
 use Rattle.gf_sums.proofs.Alike.{Alike, alike-same, same-alike, equal, itself, turned, joined, append-alike, scale-alike, reindex-alike, weigh-reindex}
 use Rattle.alb_poly.specs.Poly.{Poly, IsSamePoly}
 use Rattle.alb_mono.specs.declared.side.Side.{Side}
-use Rattle.alb_poly.specs.Context.{beside, within}
+use Rattle.alb_poly.specs.Consequence.{beside, within, Item, form_at, IsItem, item_value, AreItems, IsConsequence}
 use Rattle.alb_poly.specs.Instance.{fill, Form, instance}
-use Rattle.alb_poly.specs.Consequence.{Item, form_at, IsItem, item_value, AreItems, IsConsequence}
 
 whole : (m : Tree) → same_tree m m ≡ true
 whole (leaf a) = eq-eqb a a refl
 whole (node l r) = rw (whole l, whole r)
 
-pub tree_tells : Tells same_tree
+pub tree_tells : TellsApart same_tree
 tree_tells = record { sound = same_tree-sound; whole = whole }
 
 pub alike_poly : {p : ℕ} {f g : Poly} → IsSamePoly p f g → Alike p f g

@@ -9,10 +9,9 @@ use Rattle.alb_mono.specs.Listing.{Each}
 use Rattle.alb_mono.specs.Tree.{Tree, leaf, node}
 use Rattle.alb_mono.specs.declared.side.Side.{Side}
 use Rattle.alb_mono.specs.declared.side.Side.TheVariants.{Left, Right}
-use Rattle.alb_poly.specs.Algebra.{evaluate, evaluate_poly, unit}
+use Rattle.alb_poly.specs.Textbook.{evaluate, evaluate_poly, unit, free_product, value_at, instance_value, IsTextConsequence}
 use Rattle.alb_poly.specs.Poly.{Poly}
-use Rattle.alb_poly.specs.Context.{beside, within}
-use Rattle.alb_poly.specs.Textbook.{free_product, value_at, instance_value, IsTextConsequence}
+use Rattle.alb_poly.specs.Consequence.{beside, within}
 use Rattle.alb_poly.proofs.Consequence.{alike_poly, flat-append}
 use Rattle.alb_poly.proofs.Parts.{each_at}
 

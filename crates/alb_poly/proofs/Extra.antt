@@ -3,8 +3,7 @@ use Rattle.std.proofs.Common.{◌≡◌, ℕ, zero, suc, ◌+◌, ◌*◌, ◌<�
 use Rattle.std.specs.List.{sum_by}
 use Rattle.std.proofs.lemmas.List.Sums.{sum_by-cons}
 use Rattle.std.proofs.lemmas.List.Sorted.{sum_by-IsPermutation}
-use Rattle.gf_field.specs.Primes.{IsPrime}
-use Rattle.gf_field.specs.Modular.{IsUnit}
+use Rattle.gf_field.specs.Modular.{IsPrime, IsUnit}
 use Rattle.gf_field.proofs.Mod.{same, unit_times}
 use Rattle.gf_field.proofs.Table.{IsUnit-below_prime}
 use Rattle.gf_sums.specs.Sums.{total}

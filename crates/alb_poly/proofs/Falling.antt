@@ -1,5 +1,5 @@
 -- Lists whose monomials descend.
-use Rattle.std.proofs.Common.{◌≡◌, ℕ, zero, suc, ◌+◌, ◌<◌, ◌≤◌, true, false, List, [], ◌∷◌, length, get_or, sum, sym, refl, ap, subst, ◌∙◌, arith, inl, inr, All}
+use Rattle.std.proofs.Common.{◌≡◌, ℕ, zero, suc, ◌+◌, ◌<◌, ◌≤◌, true, false, List, [], ◌∷◌, length, get_or, sum, sym, refl, ap, subst, ◌∙◌, arith, inl, inr, All, replicate}
 use Rattle.std.specs.Ordering.{is_lt, nat_cmp, ordering_then}
 use Rattle.std.specs.Cmp.Lexicographic.{slice_cmp}
 use Rattle.std.specs.declared.cmp.Ordering.{Ordering}
@@ -10,15 +10,13 @@ use Rattle.std.proofs.lemmas.Cmp.{tied_itself, nat_cmp_total, lists_total}
 use Rattle.std.proofs.lemmas.List.Elements.{All-cons, All-nil}
 use Rattle.std.proofs.lemmas.List.Sums.{sum_by-cons}
 use Rattle.gf_sums.specs.Sums.{AllBefore, coefficient, reindex}
-use Rattle.alb_mono.specs.Mono.{tree}
-use Rattle.alb_mono.specs.Tree.{Tree, node, degree, are_below, type_of, type_plus, cmp_types, cmp_trees, cmp_monos, same_tree}
+use Rattle.alb_mono.specs.Tree.{tree, Tree, node, degree, are_below, type_of, type_plus, cmp_types, cmp_trees, cmp_monos, same_tree}
 use Rattle.alb_mono.specs.declared.side.Side.{Side}
 use Rattle.alb_mono.specs.declared.side.Side.TheVariants.{Left, Right}
 use Rattle.alb_mono.proofs.Leaves.{length-type_of, plus-node, plus_replicate}
-use Rattle.std.proofs.Common.{replicate}
 use Rattle.std.proofs.lemmas.List.{length-replicate}
 use Rattle.alb_mono.proofs.Order.{cmp_monos_total, product_left, product_right}
-use Rattle.alb_poly.specs.Context.{beside}
+use Rattle.alb_poly.specs.Consequence.{beside}
 use Rattle.alb_poly.specs.Poly.{Poly, IsDescending}
 use Rattle.alb_poly.specs.Sorted.{comes_first, AreSorted}
 use Rattle.alb_poly.specs.Terms.{term, terms, multiples}

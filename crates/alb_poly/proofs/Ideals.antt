@@ -13,10 +13,9 @@ use Rattle.alb_mono.proofs.ListingLemmas.{each-weaker}
 use Rattle.alb_mono.specs.Tree.{Tree, leaf, node}
 use Rattle.alb_mono.specs.declared.side.Side.{Side}
 use Rattle.alb_mono.specs.declared.side.Side.TheVariants.{Left, Right}
-use Rattle.alb_poly.specs.Algebra.{evaluate, unit}
+use Rattle.alb_poly.specs.Textbook.{evaluate, unit, free_product, value_at, Instance, instance_value, IsTextConsequence}
 use Rattle.alb_poly.specs.Poly.{Poly, generator, product}
-use Rattle.alb_poly.specs.Context.{beside, within}
-use Rattle.alb_poly.specs.Textbook.{free_product, value_at, Instance, instance_value, IsTextConsequence}
+use Rattle.alb_poly.specs.Consequence.{beside, within}
 use Rattle.alb_poly.specs.Ideal.{IsIdeal, HoldsValues}
 use Rattle.alb_poly.specs.Laws.{ConsequencesAreTIdeal, ConsequencesAreLeast}
 use Rattle.alb_poly.proofs.Consequence.{alike_poly, poly_alike, itself', flat-append, within-append}

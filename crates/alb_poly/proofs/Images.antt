@@ -6,11 +6,9 @@ use Rattle.std.proofs.Math.Nat.{mul-le-mul_right}
 use Rattle.gf_sums.proofs.Alike.{Alike, joined, scale-alike, flat-alike, multiply-alike}
 use Rattle.alb_mono.proofs.Both.{and_left, and_right}
 use Rattle.alb_mono.specs.Tree.{Tree, leaf, node, degree, are_below}
-use Rattle.alb_poly.specs.Algebra.{evaluate, evaluate_poly}
-use Rattle.alb_poly.specs.Normal.{normal}
-use Rattle.alb_poly.specs.Poly.{Poly, AreResidues, IsDescending, product, greatest_degree}
+use Rattle.alb_poly.specs.Textbook.{evaluate, evaluate_poly, free_product}
+use Rattle.alb_poly.specs.Poly.{normal, Poly, AreResidues, IsDescending, product, greatest_degree}
 use Rattle.alb_poly.specs.Terms.{multiples}
-use Rattle.alb_poly.specs.Textbook.{free_product}
 use Rattle.alb_poly.proofs.NormalLemmas.{normal-alike, alike-normal, normal-degree, normal-canonical, descending-canonical}
 use Rattle.alb_poly.proofs.Products.{product-degree_most, multiples-alike, multiples-residues}
 

@@ -12,9 +12,8 @@ use Rattle.alb_mono.specs.Listing.{Each}
 use Rattle.alb_mono.specs.Tree.{Tree, count}
 use Rattle.alb_poly.specs.Poly.{Poly}
 use Rattle.alb_mono.specs.declared.side.Side.{Side}
-use Rattle.alb_poly.specs.Context.{within}
+use Rattle.alb_poly.specs.Consequence.{within, AreMultilinear, Item, form_at, IsItem, item_value, AreItems, IsConsequence}
 use Rattle.alb_poly.specs.Instance.{fill, Form, IsMultilinear}
-use Rattle.alb_poly.specs.Consequence.{AreMultilinear, Item, form_at, IsItem, item_value, AreItems, IsConsequence}
 use Rattle.alb_poly.proofs.Multilinear.{each-from, each-map, leaves-multilinear}
 use Rattle.alb_poly.proofs.Consequence.{value, weigh-item, alike_poly, poly_alike}
 use Rattle.alb_poly.proofs.Parts.{weigh-keep, weigh-zero, weigh-each, multilinear_at, count-leaves, count-within}

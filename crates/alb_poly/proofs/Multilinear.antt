@@ -1,10 +1,8 @@
 -- Linearizations are multilinear, and their instances are those of the identity.
-use Rattle.std.proofs.Common.{◌≡◌, ℕ, zero, suc, ◌+◌, ◌<◌, ◌≤◌, true, List, [], ◌∷◌, ◌++◌, map, take, drop, length, get_or, sum, sym, refl, ap, ◌∙◌, subst, arith, ltb}
+use Rattle.std.proofs.Common.{◌≡◌, ℕ, zero, suc, ◌+◌, ◌<◌, ◌≤◌, true, List, [], ◌∷◌, ◌++◌, map, take, drop, length, get_or, sum, sym, refl, ap, ◌∙◌, subst, arith, ltb, drop-cons}
 use Rattle.std.specs.Bool.{if◌then◌else◌}
 use Rattle.std.specs.List.{All, flat_map}
-use Rattle.std.proofs.lemmas.List.{get_or-map, take-append-drop, length-drop}
-use Rattle.std.proofs.Common.{drop-cons}
-use Rattle.std.proofs.lemmas.List.{take_all}
+use Rattle.std.proofs.lemmas.List.{get_or-map, take-append-drop, length-drop, take_all}
 use Rattle.std.proofs.Math.ListN.{drop_of_length-le}
 use Rattle.std.proofs.lemmas.List.Sums.{sum_by_more, sum_by-cons}
 use Rattle.std.proofs.Math.Nat.{zero-add}
@@ -14,14 +12,11 @@ use Rattle.alb_mono.specs.Tree.{Tree, leaf, node, AreBelow}
 use Rattle.gf_sums.specs.Sums.{total}
 use Rattle.gf_sums.proofs.Totals.{total-append}
 use Rattle.alb_poly.specs.Poly.{Poly}
-use Rattle.alb_poly.specs.Instance.{fill, insertions, orders, arrangements, numbered, first_number, identity_instance, positions, linearization, instance}
-use Rattle.alb_poly.specs.Identity.{HasType, IsHomogeneous}
-use Rattle.alb_poly.specs.Instance.{IsMultilinear, IsMultilinearForm}
+use Rattle.alb_poly.specs.Instance.{fill, insertions, orders, arrangements, numbered, first_number, identity_instance, positions, linearization, instance, HasType, IsHomogeneous, IsMultilinear, IsMultilinearForm, leaves, total_from}
 use Rattle.alb_mono.specs.Listing.{Each}
 use Rattle.alb_mono.proofs.ListingLemmas.{each-at}
 pub use Rattle.alb_mono.proofs.ListingLemmas.{each-append, each-weaker as each-from}
 use Rattle.alb_poly.proofs.Orders.{map-flat, map-map, arrangements-map, run-plus, runs, leaves-numbered}
-use Rattle.alb_poly.specs.Instance.{leaves, run}
 
 -- ---- what holds of each element
 
@@ -91,22 +86,22 @@ order-length xs zs h = sym (length_total zs) ∙ h (λ x. 1) ∙ length_total xs
 
 -- ---- the numbered leaves
 
-runs-first : (w : ℕ → ℕ) (e : List ℕ) (m : Tree) (u : ℕ) → HasType e m → u ≤ length e → runs w (first_number e) m u ≡ run w 0 (sum (take u e))
+runs-first : (w : ℕ → ℕ) (e : List ℕ) (m : Tree) (u : ℕ) → HasType e m → u ≤ length e → runs w (first_number e) m u ≡ total_from w 0 (sum (take u e))
 unfolding runs
 runs-first w e m zero h k = refl
 runs-first w e m (suc v) h k =
     let s : sum (take (v + 1) e) ≡ sum (take v e) + get_or e v 0 = sum_by_more (λ x. x) e v 0 k in
-    rw (← (add-one v), s, h.counts v k) (omega (arith, runs-first w e m v h (omega arith), run-plus w 0 (sum (take v e)) (get_or e v 0), ap (λ z. run w z (get_or e v 0)) (zero-add (sum (take v e)))))
+    rw (← (add-one v), s, h.counts v k) (omega (arith, runs-first w e m v h (omega arith), run-plus w 0 (sum (take v e)) (get_or e v 0), ap (λ z. total_from w z (get_or e v 0)) (zero-add (sum (take v e)))))
 
-pub leaves-first : (w : ℕ → ℕ) (e : List ℕ) (m : Tree) → HasType e m → leaves w (numbered (first_number e) m) ≡ run w 0 (sum e)
+pub leaves-first : (w : ℕ → ℕ) (e : List ℕ) (m : Tree) → HasType e m → leaves w (numbered (first_number e) m) ≡ total_from w 0 (sum e)
 leaves-first w e m h =
-    leaves-numbered w (first_number e) m (length e) h.below ∙ runs-first w e m (length e) h (omega arith) ∙ ap (λ x. run w 0 (sum x)) (take_all (length e) e (omega arith))
+    leaves-numbered w (first_number e) m (length e) h.below ∙ runs-first w e m (length e) h (omega arith) ∙ ap (λ x. total_from w 0 (sum x)) (take_all (length e) e (omega arith))
 
 -- 0 below `n` and 1 from there on
 unfoldable pub past : ℕ → ℕ → ℕ
 past n k = if ltb k n then 0 else 1
 
-run-past : (n k j : ℕ) → k + j ≤ n → run (past n) k j ≡ 0
+run-past : (n k j : ℕ) → k + j ≤ n → total_from (past n) k j ≡ 0
 unfolding past
 run-past n k zero h = refl
 run-past n k (suc j) h = let e : ltb k n ≡ true = grind (arith, nat_tests) in rw e (omega (arith, run-past n (suc k) j (omega arith)))
@@ -138,7 +133,7 @@ leaves-fill : (w : ℕ → ℕ) (ms : List Tree) (m : Tree) → leaves w (fill m
 leaves-fill w ms (leaf k) = refl
 leaves-fill w ms (node l r) = rw (leaves-fill w ms l, leaves-fill w ms r)
 
-run-drop : (w : ℕ → ℕ) (ms : List Tree) (k n : ℕ) → k + n ≡ length ms → run (λ k. leaves w (get_or ms k (leaf k))) k n ≡ total (leaves w) (drop k ms)
+run-drop : (w : ℕ → ℕ) (ms : List Tree) (k n : ℕ) → k + n ≡ length ms → total_from (λ k. leaves w (get_or ms k (leaf k))) k n ≡ total (leaves w) (drop k ms)
 run-drop w ms k zero h = let e : drop k ms ≡ [] = drop_of_length-le ms (omega arith) in rw e
 run-drop w ms k (suc n) h =
     let e : drop k ms ≡ get_or ms k (leaf k) ∷ drop (suc k) ms = drop-cons ms k (leaf k) (omega arith) in
@@ -150,7 +145,7 @@ leaves-multilinear w ms m h = leaves-fill w ms m ∙ h _ ∙ run-drop w ms 0 (le
 
 -- ---- the linearization
 
-leaves-positions : (w : ℕ → ℕ) (k n : ℕ) → total (leaves w) (positions k n) ≡ run w k n
+leaves-positions : (w : ℕ → ℕ) (k n : ℕ) → total (leaves w) (positions k n) ≡ total_from w k n
 leaves-positions w k zero = refl
 leaves-positions w k (suc n) = rw (leaves-positions w (suc k) n)
 
@@ -174,7 +169,7 @@ linearization-multilinear e f h =
     each-map (IsOrder (positions 0 (sum e))) (λ t. IsMultilinear (sum e) t.1) _ (arrangements e (positions 0 (sum e)))
     (λ a o w.
     let n : length a ≡ sum e = order-length (positions 0 (sum e)) a o ∙ positions-sum e in
-    leaves-multilinear w a _ (λ v. leaves-first v e t.1 k ∙ ap (run v 0) (sym n))
+    leaves-multilinear w a _ (λ v. leaves-first v e t.1 k ∙ ap (total_from v 0) (sym n))
     ∙ o (leaves w) ∙ leaves-positions w 0 (sum e))
     (arrangements-order e (positions 0 (sum e)) (positions-sum e))) h
 

@@ -16,8 +16,7 @@ use Rattle.gf_sums.proofs.Canonical.{canonical-unique}
 use Rattle.alb_mono.specs.Listing.{Each}
 use Rattle.alb_mono.specs.Tree.{Tree, degree, type_of, cmp_types, cmp_trees, cmp_monos, same_tree}
 use Rattle.alb_mono.proofs.Order.{cmp_monos_total, trees_equal}
-use Rattle.alb_poly.specs.Poly.{Poly, IsSamePoly, AreResidues, greatest_degree, IsDescending}
-use Rattle.alb_poly.specs.Normal.{before, placed, put, normal}
+use Rattle.alb_poly.specs.Poly.{Poly, IsSamePoly, AreResidues, greatest_degree, IsDescending, before, placed, put, normal}
 use Rattle.alb_poly.proofs.Consequence.{tree_tells, alike_poly, poly_alike}
 use Rattle.alb_poly.proofs.Multilinear.{each_from_all, all_from_each}
 

@@ -6,7 +6,7 @@ use Rattle.std.proofs.Math.Nat.{zero-add, add-zero, suc-add, add-suc}
 use Rattle.std.proofs.lemmas.Bool.{cases_eq, eq-eqb}
 use Rattle.std.proofs.lemmas.Bool.Decides.{nat_tests}
 use Rattle.alb_mono.specs.Tree.{Tree, leaf, node, count, AreBelow}
-use Rattle.alb_poly.specs.Instance.{leaves, run, insertions, orders, arrangements, numbered}
+use Rattle.alb_poly.specs.Instance.{leaves, total_from, insertions, orders, arrangements, numbered}
 
 pub map-flat : {X Y Z : Type 0} (h : Y → Z) (g : X → List Y) (xs : List X) → map h (flat_map g xs) ≡ flat_map (λ x. map h (g x)) xs
 map-flat h g [] = refl
@@ -53,14 +53,14 @@ arrangements-map h (n ∷ e) xs =
 
 -- ---- sums over the leaves
 
-pub run-plus : (w : ℕ → ℕ) (k m n : ℕ) → run w k (m + n) ≡ run w k m + run w (k + m) n
+pub run-plus : (w : ℕ → ℕ) (k m n : ℕ) → total_from w k (m + n) ≡ total_from w k m + total_from w (k + m) n
 run-plus w k zero n = rw (zero-add n, add-zero k) (omega arith)
 run-plus w k (suc m) n = rw (suc-add m n, add-suc k m) (rw (← (suc-add k m)) (omega (arith, run-plus w (suc k) m n)))
 
 -- The sum over the numbered leaves: each variable below `u` has its numbers in a row.
 unfoldable pub runs : (ℕ → ℕ) → (ℕ → ℕ) → Tree → ℕ → ℕ
 runs w next m zero = 0
-runs w next m (suc v) = runs w next m v + run w (next v) (count v m)
+runs w next m (suc v) = runs w next m v + total_from w (next v) (count v m)
 
 runs-node : (w next : ℕ → ℕ) (l r : Tree) (u : ℕ) → runs w next (node l r) u ≡ runs w next l u + runs w (λ v. next v + count v l) r u
 unfolding runs

@@ -1,5 +1,5 @@
 -- The homogeneous parts of a descending list are its runs of one type.
-use Rattle.std.proofs.Common.{◌≡◌, ◌≢◌, ℕ, zero, suc, ◌+◌, ◌-◌, ◌<◌, ◌≤◌, true, List, [], ◌∷◌, ◌++◌, take, drop, length, get_or, sum, sym, refl, ap, subst, ◌∙◌, arith, inl, inr, ◌⊎◌, All, append-nil}
+use Rattle.std.proofs.Common.{◌≡◌, ◌≢◌, ℕ, zero, suc, ◌+◌, ◌-◌, ◌<◌, ◌≤◌, true, List, [], ◌∷◌, ◌++◌, take, drop, length, get_or, sum, sym, refl, ap, subst, ◌∙◌, arith, inl, inr, ◌⊎◌, All, append-nil, drop_of_length-le}
 use Rattle.std.specs.Ordering.{nat_cmp, ordering_then}
 use Rattle.std.specs.Cmp.Lexicographic.{slice_cmp}
 use Rattle.std.specs.declared.cmp.Ordering.{Ordering}
@@ -7,21 +7,19 @@ use Rattle.std.specs.declared.cmp.Ordering.TheVariants.{Less, Equal, Greater}
 use Rattle.std.proofs.lemmas.Bool.{cases_Bool, false≢true}
 use Rattle.std.proofs.lemmas.Bool.Decides.{nat_tests}
 use Rattle.std.proofs.lemmas.Cmp.{tied_itself, nat_cmp_total, lists_total}
-use Rattle.std.proofs.Common.{drop_of_length-le}
 use Rattle.std.proofs.lemmas.List.{map-append, take-append-drop, drop-drop}
 use Rattle.alb_poly.proofs.Items.{term_at}
 use Rattle.std.proofs.lemmas.List.Elements.{filter-append}
 use Rattle.std.proofs.lemmas.List.Sums.{sum_by-cons}
 use Rattle.gf_sums.specs.Sums.{AllBefore}
 use Rattle.alb_mono.specs.Listing.{Each, IsListing}
-use Rattle.alb_mono.specs.Mono.{tree}
-use Rattle.alb_mono.specs.Tree.{Tree, count, listed, type_of, cmp_types, cmp_trees, cmp_monos, are_below, AreBelow}
+use Rattle.alb_mono.specs.Tree.{tree, Tree, count, listed, type_of, cmp_types, cmp_trees, cmp_monos, are_below, AreBelow}
 use Rattle.alb_mono.proofs.Leaves.{length-type_of, below_from_test}
 use Rattle.alb_mono.proofs.ListingLemmas.{each-weaker, each-append, in-left, in-right, ascends-append}
 use Rattle.alb_mono.proofs.Order.{cmp_types_total}
 use Rattle.alb_poly.specs.Poly.{Poly, IsDescending, list_eq, has_type, part}
 use Rattle.alb_poly.specs.Components.{IsComponent, by_type}
-use Rattle.alb_poly.specs.Runs.{IsRun}
+use Rattle.alb_poly.specs.Runs.{IsTypeRun}
 use Rattle.alb_poly.specs.Terms.{term, terms}
 use Rattle.alb_poly.specs.declared.term.Term.{Term}
 use Rattle.alb_poly.proofs.Falling.{types_equal}
@@ -234,7 +232,7 @@ slice_some ts start zero h l e = absurd (omega arith)
 slice_some (t ∷ ts) zero (suc len) h l e = absurd (cc)
 slice_some (t ∷ ts) (suc start) (suc len) h l e = slice_some ts start (suc len) h (omega arith) e
 
-pub run_some : (n : ℕ) (ts : List Term) (end start : ℕ) (e : List ℕ) (t : Term) → 0 < end → e ≡ type_of n (tree t.mono) → t ≡ get_or ts (end - 1) t → IsRun n ts end e start → start < end
+pub run_some : (n : ℕ) (ts : List Term) (end start : ℕ) (e : List ℕ) (t : Term) → 0 < end → e ≡ type_of n (tree t.mono) → t ≡ get_or ts (end - 1) t → IsTypeRun n ts end e start → start < end
 run_some n ts end start e t pos h i r = less start end r.within (λ q.
     r.cut t (omega arith) (ap (λ k. type_of n (tree (get_or ts (k - 1) t).mono)) q ∙ ap (λ u. type_of n (tree u.mono)) (sym i) ∙ sym h))
   where
@@ -252,7 +250,7 @@ letters_at n ts a k d h = term_at (λ t. are_below n t.1 ≡ true) ts k (get_or 
 
 module _ (n : ℕ) (ts : List Term) (few : n ≤ 26) (letters : All (λ t. are_below n t.1 ≡ true) (terms ts)) (falls : IsDescending (terms ts)) where
   pub parted-more : (end start : ℕ) (e : List ℕ) (t : Term) (out : List (List ℕ × Poly)) → Parted n ts end out → 0 < end → e ≡ type_of n (tree t.mono) → t ≡ get_or ts (end - 1) t →
-      IsRun n ts end e start → Parted n ts start (out ++ (e, terms (take (end - start) (drop start ts))) ∷ [])
+      IsTypeRun n ts end e start → Parted n ts start (out ++ (e, terms (take (end - start) (drop start ts))) ∷ [])
   parted-more end start e t out c pos h i r =
       let s : start < end = run_some n ts end start e t pos h i r in
       let within : end ≤ length ts = c.within in

@@ -8,9 +8,8 @@ use Rattle.gf_sums.specs.Sums.{total, Comb, weigh}
 pub use Rattle.gf_sums.proofs.Totals.{weigh-zero}
 use Rattle.alb_mono.specs.declared.side.Side.{Side}
 use Rattle.alb_mono.specs.declared.side.Side.TheVariants.{Left, Right}
-use Rattle.alb_poly.specs.Context.{within}
+use Rattle.alb_poly.specs.Consequence.{within, AreMultilinear, form_at}
 use Rattle.alb_poly.specs.Instance.{Form, leaves, IsMultilinearForm}
-use Rattle.alb_poly.specs.Consequence.{AreMultilinear, form_at}
 use Rattle.alb_mono.specs.Listing.{Each}
 
 pub weigh-keep : {I : Type 0} (w : I → ℕ) (q : I → Bool) (f : Comb I) → weigh w (filter (λ t. q t.1) f) ≡ weigh (λ i. if q i then w i else 0) f

@@ -5,8 +5,7 @@ use Rattle.std.specs.declared.cmp.Ordering.{Ordering}
 use Rattle.std.specs.declared.cmp.Ordering.TheVariants.{Less, Equal, Greater}
 use Rattle.std.proofs.lemmas.Cmp.{tied_itself}
 use Rattle.std.proofs.Math.Nat.{mod-lt}
-use Rattle.gf_field.specs.Modular.{IsSameMod}
-use Rattle.gf_field.specs.Primes.{IsPrime}
+use Rattle.gf_field.specs.Modular.{IsSameMod, IsPrime}
 use Rattle.gf_field.proofs.Mod.{same, back, ◌⊙◌, plus, times, of_mod, residues, cancel_times}
 use Rattle.gf_field.proofs.Table.{IsUnit-below_prime}
 use Rattle.gf_sums.specs.Sums.{weigh, scale, AllBefore, IsCanonical}
@@ -17,9 +16,8 @@ use Rattle.alb_mono.specs.Tree.{Tree, node, degree, cmp_monos}
 use Rattle.alb_mono.proofs.Order.{cmp_monos_total}
 use Rattle.alb_mono.proofs.ListingLemmas.{each-weaker, each-append}
 use Rattle.std.proofs.lemmas.List.Elements.{All-nil, All-cons, All-head, All-tail, All-append}
-use Rattle.alb_poly.specs.Poly.{Poly, product, greatest_degree, AreResidues}
+use Rattle.alb_poly.specs.Poly.{Poly, product, greatest_degree, AreResidues, before, placed, put, normal}
 use Rattle.alb_poly.specs.Terms.{term_product, products, multiples}
-use Rattle.alb_poly.specs.Normal.{before, placed, put, normal}
 use Rattle.alb_poly.proofs.NormalLemmas.{not_zero, monos_equal, each-before, normal-each, alike-normal}
 
 -- the products of a term with those of a list

@@ -8,7 +8,7 @@ use Rattle.alb_mono.specs.Tree.{Tree, leaf, node, count, type_of, are_below, Are
 use Rattle.alb_mono.proofs.Both.{and_left, and_right, both_true}
 use Rattle.alb_mono.proofs.Leaves.{length-type_of, below_from_test, get-type}
 use Rattle.alb_poly.specs.Poly.{list_eq, has_type}
-use Rattle.alb_poly.specs.Identity.{HasType}
+use Rattle.alb_poly.specs.Instance.{HasType}
 
 -- ---- lists of numbers
 

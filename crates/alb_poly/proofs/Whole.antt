@@ -7,15 +7,13 @@ use Rattle.gf_sums.proofs.Alike.{Alike, equal}
 use Rattle.alb_mono.specs.Listing.{Each}
 use Rattle.alb_mono.specs.Tree.{Tree, leaf, node, type_of, AreBelow}
 use Rattle.alb_mono.proofs.Leaves.{length-type_of}
-use Rattle.alb_poly.specs.Poly.{Poly, has_type, part}
-use Rattle.alb_poly.specs.Identity.{HasType, IsHomogeneous}
-use Rattle.alb_poly.specs.Instance.{Form}
+use Rattle.alb_poly.specs.Poly.{Poly, has_type, part, list_eq}
+use Rattle.alb_poly.specs.Instance.{HasType, IsHomogeneous, Form}
 use Rattle.alb_poly.specs.Consequence.{AreMultilinear, item_value, IsConsequence, IsConsequenceOfType}
 use Rattle.alb_poly.specs.Laws.{PartsDecide, TypesAreTested}
 use Rattle.alb_poly.proofs.Multilinear.{each-from}
 use Rattle.alb_poly.proofs.Consequence.{poly_alike, consequence-same, consequence-zero, consequence-append}
 use Rattle.alb_poly.proofs.Kept.{keep, Passes, Kept, item-each, consequence-kept}
-use Rattle.alb_poly.specs.Poly.{list_eq}
 use Rattle.alb_poly.proofs.Types.{list_eq-itself, list_eq-sound, test_from_below, has_type-sound, has_type-whole, has_type-of, has_type-is, has_type-counts}
 
 pub types-are-tested : TypesAreTested

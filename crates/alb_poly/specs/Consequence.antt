@@ -1,14 +1,37 @@
--- Consequences: combinations of instances in contexts.
-use Rattle.std.specs.Prelude.{◌≡◌, ℕ, ◌<◌, List, [], ◌∷◌, length, slice_index_or}
+-- Contexts, rules and their consequences.
+use Rattle.std.specs.Prelude.{List, [], ◌∷◌, map, ◌≡◌, ℕ, ◌<◌, length, slice_index_or}
+use Rattle.alb_mono.specs.Tree.{Tree, node}
+use Rattle.alb_mono.specs.declared.side.Side.{Side}
+use Rattle.alb_mono.specs.declared.side.Side.TheVariants.{Left, Right}
+use Rattle.alb_poly.specs.declared.rules.Linear.{Linear}
+use Rattle.alb_poly.specs.declared.rules.Rules.{Rules}
+use Rattle.alb_poly.specs.Instance.{Form, instance, IsMultilinearForm, IsHomogeneous}
 use Rattle.std.specs.List.{flat_map}
 use Rattle.gf_sums.specs.Sums.{scale, reindex}
 use Rattle.alb_mono.specs.Listing.{Each}
-use Rattle.alb_mono.specs.Tree.{Tree}
-use Rattle.alb_mono.specs.declared.side.Side.{Side}
 use Rattle.alb_poly.specs.Poly.{Poly, IsSamePoly}
-use Rattle.alb_poly.specs.Context.{within}
-use Rattle.alb_poly.specs.Instance.{Form, instance, IsMultilinearForm}
-use Rattle.alb_poly.specs.Identity.{IsHomogeneous}
+
+-- ---- contexts: what stands round a monomial in a product
+
+-- the product of a monomial with another one, which stands on the named side
+abbrev pub beside : Side × Tree → Tree → Tree
+beside (Left, m) x = node m x
+beside (Right, m) x = node x m
+
+-- a monomial in a context, whose factors are applied from the inside out
+abbrev pub within : List (Side × Tree) → Tree → Tree
+within [] x = x
+within (s ∷ c) x = within c (beside s x)
+
+-- ---- what contracts see of linearized identities and rules
+
+abbrev pub form : Linear → Form
+form f = record { degree = f.degree; terms = f.terms }
+
+abbrev pub forms : Rules → List Form
+forms r = map form r.linears.items
+
+-- ---- consequences: combinations of instances in contexts
 
 -- a multiple of an instance in a context
 pub record Item : Type 0 where

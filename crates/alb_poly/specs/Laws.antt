@@ -3,14 +3,11 @@ use Rattle.std.specs.Prelude.{◌≡◌, ◌<◌, ◌↔◌, ℕ, ◌++◌, IsTr
 use Rattle.gf_sums.specs.Sums.{scale, reindex, IsCanonical}
 use Rattle.alb_mono.specs.Tree.{Tree, cmp_monos}
 use Rattle.alb_mono.specs.declared.side.Side.{Side}
-use Rattle.alb_poly.specs.Poly.{Poly, IsSamePoly, has_type, part}
-use Rattle.alb_poly.specs.Normal.{normal}
-use Rattle.alb_poly.specs.Context.{beside}
-use Rattle.alb_poly.specs.Instance.{Form, instance}
-use Rattle.alb_poly.specs.Identity.{HasType}
+use Rattle.alb_poly.specs.Poly.{Poly, IsSamePoly, has_type, part, normal}
+use Rattle.alb_poly.specs.Consequence.{beside, IsConsequence, IsConsequenceOfType, AreMultilinear, form_at}
+use Rattle.alb_poly.specs.Instance.{Form, instance, HasType}
 use Rattle.alb_poly.specs.Textbook.{IsTextConsequence}
 use Rattle.alb_poly.specs.Ideal.{IsIdeal, IsTIdeal, HoldsValues, Passing}
-use Rattle.alb_poly.specs.Consequence.{IsConsequence, IsConsequenceOfType, AreMultilinear, form_at}
 
 -- sums, multiples and products with a monomial of consequences are consequences
 pub record ConsequencesAreClosed (p : ℕ) (fs : List Form) : Type 0 where
@@ -23,12 +20,12 @@ abbrev pub ClosureLaw : Type 0
 ClosureLaw = (p : ℕ) (fs : List Form) → ConsequencesAreClosed p fs
 
 -- The normal form of a polynomial: the one descending list without zeros that has its coefficients.
-pub record IsNormalForm (p : ℕ) (f g : Poly) : Type 0 where
+pub record IsCanonicalForm (p : ℕ) (f g : Poly) : Type 0 where
   pub canonical : IsCanonical cmp_monos p g
   pub same : IsSamePoly p g f
 
 abbrev pub NormalFormLaw : Type 0
-NormalFormLaw = (p : ℕ) (f : Poly) → 0 < p → IsNormalForm p f (normal p f) × ((g : Poly) → IsNormalForm p f g → g ≡ normal p f)
+NormalFormLaw = (p : ℕ) (f : Poly) → 0 < p → IsCanonicalForm p f (normal p f) × ((g : Poly) → IsCanonicalForm p f g → g ≡ normal p f)
 
 -- the test of types is true of the monomials that have the type, and of no others
 abbrev pub TypesAreTested : Type 0

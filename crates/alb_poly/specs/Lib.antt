@@ -1,15 +1,10 @@
 pub mod Poly
-pub mod Normal
 pub mod Terms
 pub mod Sorted
-pub mod Context
 pub mod Instance
-pub mod Identity
-pub mod Consequence
-pub mod Algebra
 pub mod Textbook
 pub mod Ideal
 pub mod Laws
 pub mod Components
 pub mod Runs
-pub mod Rules
+pub mod Consequence

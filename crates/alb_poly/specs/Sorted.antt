@@ -2,11 +2,9 @@
 use Rattle.std.specs.Prelude.{Bool, ℕ, ◌+◌, ◌%◌, if◌then◌else◌, List, [], ◌∷◌}
 use Rattle.std.specs.Ordering.{is_lt}
 use Rattle.std.specs.List.Sorted.{IsSortedBy}
-use Rattle.alb_mono.specs.Tree.{Tree, cmp_monos, same_tree}
-use Rattle.alb_mono.specs.Mono.{tree}
+use Rattle.alb_mono.specs.Tree.{Tree, cmp_monos, same_tree, tree}
 use Rattle.alb_poly.specs.declared.term.Term.{Term}
-use Rattle.alb_poly.specs.Poly.{Poly}
-use Rattle.alb_poly.specs.Normal.{before}
+use Rattle.alb_poly.specs.Poly.{Poly, before}
 
 -- the greater monomial comes first
 abbrev pub comes_first : Term → Term → Bool

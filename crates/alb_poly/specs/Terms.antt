@@ -1,8 +1,7 @@
 -- What contracts see of terms.
 use Rattle.std.specs.Prelude.{ℕ, ◌*◌, ◌%◌, List, map}
 use Rattle.std.specs.List.{flat_map}
-use Rattle.alb_mono.specs.Tree.{Tree, node}
-use Rattle.alb_mono.specs.Mono.{tree}
+use Rattle.alb_mono.specs.Tree.{Tree, node, tree}
 use Rattle.alb_poly.specs.declared.term.Term.{Term}
 
 abbrev pub term : Term → ℕ × Tree

@@ -1,9 +1,8 @@
 //! Lists of terms, one term after another.
 ghost use Rattle.std.specs.Prelude.{◌≡◌, ◌+◌, ◌*◌, ◌<◌, ◌≤◌, ◌++◌, IfOk, OnOk, IsTrue, map};
 ghost use Rattle.gf_sums.specs.Sums.{reindex};
-ghost use Rattle.alb_mono.specs.Mono.{tree};
-ghost use Rattle.alb_mono.specs.Tree.{degree, are_below};
-ghost use Rattle.alb_poly.specs.Context.{beside};
+ghost use Rattle.alb_mono.specs.Tree.{tree, degree, are_below};
+ghost use Rattle.alb_poly.specs.Consequence.{beside};
 ghost use Rattle.alb_poly.specs.Poly.{AreResidues, greatest_degree};
 ghost use Rattle.alb_poly.specs.Terms.{term, terms, term_product, products, multiples};
 

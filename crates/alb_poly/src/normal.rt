@@ -1,8 +1,7 @@
 //! The list of a polynomial, from terms in any order.
 ghost use Rattle.std.specs.Prelude.{◌≡◌, ◌<◌, IfOk, OnOk, IsPermutation, reverse};
-ghost use Rattle.alb_mono.specs.Mono.{tree};
-ghost use Rattle.alb_poly.specs.Poly.{AreResidues, IsDescending};
-ghost use Rattle.alb_poly.specs.Normal.{before, normal};
+ghost use Rattle.alb_mono.specs.Tree.{tree};
+ghost use Rattle.alb_poly.specs.Poly.{AreResidues, IsDescending, before, normal};
 ghost use Rattle.alb_poly.specs.Sorted.{AreSorted, in_front};
 ghost use Rattle.alb_poly.specs.Terms.{term, terms};
 

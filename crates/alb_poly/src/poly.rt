@@ -1,15 +1,12 @@
 ghost use Rattle.std.specs.Prelude.{◌≡◌, ◌+◌, ◌*◌, ◌<◌, ◌≤◌, ◌++◌, ◌==◌, [], ◌∷◌, ℕ, IsTrue, IfOk, All, MatchOption, if◌then◌else◌, length, slice_get, slice_index_or};
 ghost use Rattle.gf_sums.specs.Sums.{scale, reindex, coefficient};
-ghost use Rattle.alb_mono.specs.Mono.{tree};
-ghost use Rattle.alb_mono.specs.Tree.{degree, are_below, same_tree};
-ghost use Rattle.alb_poly.specs.Poly.{AreResidues, IsDescending, greatest_degree, product};
+ghost use Rattle.alb_mono.specs.Tree.{tree, degree, are_below, same_tree};
+ghost use Rattle.alb_poly.specs.Poly.{AreResidues, IsDescending, greatest_degree, product, normal};
 ghost use Rattle.alb_mono.specs.Listing.{IsListing};
 ghost use Rattle.alb_poly.specs.Components.{IsComponent, by_type};
-ghost use Rattle.alb_poly.specs.Normal.{normal};
 ghost use Rattle.alb_poly.specs.Terms.{term, terms};
-ghost use Rattle.alb_poly.specs.Context.{beside};
-ghost use Rattle.alb_poly.specs.Algebra.{evaluate, evaluate_poly};
-ghost use Rattle.alb_poly.specs.Textbook.{free_product};
+ghost use Rattle.alb_poly.specs.Consequence.{beside};
+ghost use Rattle.alb_poly.specs.Textbook.{evaluate, evaluate_poly, free_product};
 
 use crate::normal::{collected, normalised};
 use crate::runs::run_start;

@@ -1,7 +1,7 @@
 //! Runs of terms of one type in a descending list.
 ghost use Rattle.std.specs.Prelude.{◌≡◌, ◌≤◌, All, IsTrue, length};
 ghost use Rattle.alb_mono.specs.Tree.{are_below};
-ghost use Rattle.alb_poly.specs.Runs.{IsRun};
+ghost use Rattle.alb_poly.specs.Runs.{IsTypeRun};
 ghost use Rattle.alb_poly.specs.Terms.{terms};
 
 use crate::Term;
@@ -13,7 +13,7 @@ pub(crate) fn run_start(list: &[Term], end: usize, at: &Multi, gens: u8) -> usiz
     requires within { end ≤ length list.now }
     requires known { All (λ t. IsTrue (are_below gens t.1)) (terms list.now) }
     requires long { length at.now ≡ gens }
-    ensures { IsRun gens list.now end at.now result }
+    ensures { IsTypeRun gens list.now end at.now result }
 {
     let mut start = end;
     while start > 0 {

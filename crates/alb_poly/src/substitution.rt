@@ -1,11 +1,8 @@
 //! Monomials whose generators are replaced by polynomials.
 ghost use Rattle.std.specs.Prelude.{◌≡◌, ◌*◌, ◌<◌, ◌≤◌, [], All, IfOk, IsTrue, length, slice_index_or};
-ghost use Rattle.alb_mono.specs.Mono.{tree};
-ghost use Rattle.alb_mono.specs.Tree.{degree, are_below};
-ghost use Rattle.alb_poly.specs.Algebra.{evaluate};
-ghost use Rattle.alb_poly.specs.Normal.{normal};
-ghost use Rattle.alb_poly.specs.Poly.{AreResidues, greatest_degree};
-ghost use Rattle.alb_poly.specs.Textbook.{free_product};
+ghost use Rattle.alb_mono.specs.Tree.{tree, degree, are_below};
+ghost use Rattle.alb_poly.specs.Textbook.{evaluate, free_product};
+ghost use Rattle.alb_poly.specs.Poly.{normal, AreResidues, greatest_degree};
 
 use crate::Poly;
 use alb_mono::{Mono, NoMemory};

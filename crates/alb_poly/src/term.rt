@@ -1,6 +1,5 @@
 ghost use Rattle.std.specs.Prelude.{◌≡◌, ◌+◌, ◌<◌, ◌≤◌, IfOk, IsTrue};
-ghost use Rattle.alb_mono.specs.Mono.{tree};
-ghost use Rattle.alb_mono.specs.Tree.{degree, are_below};
+ghost use Rattle.alb_mono.specs.Tree.{tree, degree, are_below};
 
 use alb_mono::{Mono, NoMemory};
 use gf_field::{Field, Residue};

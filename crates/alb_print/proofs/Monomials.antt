@@ -2,7 +2,7 @@
 use Rattle.std.proofs.Common.{◌≡◌, ℕ, zero, suc, ◌+◌, ◌<◌, ◌≤◌, true, false, List, [], ◌∷◌, ◌++◌, length, refl, sym, ap, subst, arith}
 use Rattle.std.specs.Prelude.{nat_lt, slice_index}
 use Rattle.std.proofs.lemmas.Bool.{ltb-true}
-use Rattle.alb_mono.specs.Tree.{Tree, leaf, node, degree, are_below}
+use Rattle.alb_mono.specs.Tree.{Tree, leaf, node, degree, are_below, AreLetters}
 use Rattle.alb_mono.proofs.Both.{both_tests}
 use Rattle.alb_mono.proofs.Degrees.{degree_positive}
 use Rattle.alb_lex.specs.declared.token.Token.{Token}
@@ -11,7 +11,6 @@ use Rattle.alb_poly.specs.Poly.{Poly}
 use Rattle.alb_syntax.specs.Grammar.{Class, Denotes, Makes, Atom, Power, Juxt, Jordan, Term, Sum}
 use Rattle.alb_syntax.specs.Grammar as grammar
 use Rattle.alb_print.specs.Text.{mono_text}
-use Rattle.alb_mono.specs.Letters.{AreLetters}
 use Rattle.alb_print.specs.Laws.{MonomialsDenoteThemselves}
 use Rattle.alb_print.proofs.Spelled.{Spelled, spelled-one, spelled-both, spelled-all, letter_is}
 use Rattle.alb_print.proofs.Values.{times-monomials}

@@ -8,17 +8,16 @@ use Rattle.std.proofs.lemmas.Bool.{ltb-true, eqb-true}
 use Rattle.std.proofs.lemmas.List.{append-nil}
 use Rattle.std.proofs.lemmas.List.Concat.{flat_map-cons}
 use Rattle.gf_sums.specs.Sums.{AllBefore, IsCanonical}
-use Rattle.alb_mono.specs.Tree.{Tree, leaf, node, degree, are_below, cmp_monos}
+use Rattle.alb_mono.specs.Tree.{Tree, leaf, node, degree, are_below, cmp_monos, AreLetters}
 use Rattle.alb_mono.proofs.Both.{both_tests}
 use Rattle.alb_lex.specs.declared.token.Token.{Token}
 use Rattle.alb_lex.specs.declared.token.TokenKind.TheVariants as kinds
-use Rattle.alb_lex.specs.Lexing.{tokens_from, run, value_after}
+use Rattle.alb_lex.specs.Lexing.{tokens_from, digit_run, value_after}
 use Rattle.alb_poly.specs.Poly.{Poly}
 use Rattle.alb_syntax.specs.Grammar.{Class, Denotes, Makes, Atom, Power, Juxt, Jordan, Term, Sum}
 use Rattle.alb_syntax.specs.Grammar as grammar
 use Rattle.alb_print.specs.Text.{mono_text, is_negative, absolute, term_text, later_text, poly_text}
-use Rattle.alb_mono.specs.Letters.{AreLetters}
-use Rattle.alb_print.specs.Laws.{TextDenotes, AreFit, PolynomialsDenoteThemselves}
+use Rattle.alb_print.specs.Laws.{TextDenotes, ArePrintable, PolynomialsDenoteThemselves}
 use Rattle.alb_print.proofs.Spelled.{Spelled, spelled-one, spelled-map, spelled-none, spelled-then, spelled-sign, spelled-all, letter_is}
 use Rattle.alb_print.proofs.Numbers.{spelled-number}
 use Rattle.alb_print.proofs.Monomials.{whole}
@@ -38,11 +37,11 @@ canonical-last : (p : ℕ) (f : Poly) (t : ℕ × Tree) → IsCanonical cmp_mono
 canonical-last p [] t h = (h.0, h.1)
 canonical-last p (u ∷ f) t h = canonical-last p f t h.3
 
-fit-front : (n : ℕ) (f g : Poly) → AreFit n (f ++ g) → AreFit n f
+fit-front : (n : ℕ) (f g : Poly) → ArePrintable n (f ++ g) → ArePrintable n f
 fit-front n [] g h = tt
 fit-front n (t ∷ f) g h = (h.0, h.1, fit-front n f g h.2)
 
-fit-last : (n : ℕ) (f : Poly) (t : ℕ × Tree) → AreFit n (f ++ t ∷ []) → (are_below n t.1 ≡ true) × (degree t.1 ≤ 64)
+fit-last : (n : ℕ) (f : Poly) (t : ℕ × Tree) → ArePrintable n (f ++ t ∷ []) → (are_below n t.1 ≡ true) × (degree t.1 ≤ 64)
 fit-last n [] t h = (h.0, h.1)
 fit-last n (u ∷ f) t h = fit-last n f t h.2
 
@@ -102,7 +101,7 @@ module _ (p : ℕ) (ls : List ℕ) (are : AreLetters ls) (one : 1 < p) (small : 
       (term_of r (r, m) (positive p r e) pos lt b h) (λ ts d. grammar.one_term 64 ts _ d)
 
   -- a later term
-  later_by : (b : Bool) (r : ℕ) (m : Tree) (us : List Token) (front : Poly) → is_negative p r ≡ b → IsCanonical cmp_monos p (front ++ (r, m) ∷ []) → AreFit (length ls) (front ++ (r, m) ∷ [])
+  later_by : (b : Bool) (r : ℕ) (m : Tree) (us : List Token) (front : Poly) → is_negative p r ≡ b → IsCanonical cmp_monos p (front ++ (r, m) ∷ []) → ArePrintable (length ls) (front ++ (r, m) ∷ [])
       → length (front ++ (r, m) ∷ []) ≤ 65536 → Denotes p ls Sum 64 us front
       → Spelled ((cond b (codes " - ") (codes " + ")) ++ term_text p ls (r, m)) (λ vs. Denotes p ls Sum 64 (us ++ vs) (front ++ (r, m) ∷ []))
   later_by true r m us front e c fit len d =
@@ -124,13 +123,13 @@ module _ (p : ℕ) (ls : List ℕ) (are : AreLetters ls) (one : 1 < p) (small : 
       (λ ys y. subst (λ z. Denotes p ls Sum 64 (us ++ (z ++ ys)) (front ++ (r, m) ∷ [])) (sym x.1)
       (grammar.added 64 x.0 us ys front ((r, m) ∷ []) _ d x.2 y (sum-last p (length ls) r m front c fit len))))
 
-  later : (us : List Token) (front f : Poly) → IsCanonical cmp_monos p (front ++ f) → AreFit (length ls) (front ++ f) → length (front ++ f) ≤ 65536 → Denotes p ls Sum 64 us front
+  later : (us : List Token) (front f : Poly) → IsCanonical cmp_monos p (front ++ f) → ArePrintable (length ls) (front ++ f) → length (front ++ f) ≤ 65536 → Denotes p ls Sum 64 us front
       → Spelled (flat_map (later_text p ls) f) (λ vs. Denotes p ls Sum 64 (us ++ vs) (front ++ f))
   later us front [] c fit len d = spelled-none (λ vs. Denotes p ls Sum 64 (us ++ vs) (front ++ [])) (subst (λ x. Denotes p ls Sum 64 x (front ++ [])) (sym (append-nil us)) (subst (λ x. Denotes p ls Sum 64 us x) (sym (append-nil front)) d))
   later us front (t ∷ f) c fit len d =
       let q : (front ++ t ∷ []) ++ f ≡ front ++ t ∷ f = append_assoc front (t ∷ []) f in
       let c2 = subst (IsCanonical cmp_monos p) (sym q) c in
-      let fit2 = subst (AreFit (length ls)) (sym q) fit in
+      let fit2 = subst (ArePrintable (length ls)) (sym q) fit in
       let len2 : length ((front ++ t ∷ []) ++ f) ≤ 65536 = subst (λ x. length x ≤ 65536) (sym q) len in
       subst (λ text. Spelled text (λ vs. Denotes p ls Sum 64 (us ++ vs) (front ++ t ∷ f))) (sym (flat_map-cons (later_text p ls) t f))
       (spelled-then (later_text p ls t) (flat_map (later_text p ls) f) (λ vs. Denotes p ls Sum 64 (us ++ vs) (front ++ t ∷ [])) (λ vs. Denotes p ls Sum 64 (us ++ vs) (front ++ t ∷ f))
@@ -139,14 +138,14 @@ module _ (p : ℕ) (ls : List ℕ) (are : AreLetters ls) (one : 1 < p) (small : 
       (later (us ++ vs) (front ++ t ∷ []) f c2 fit2 len2 e)
       (λ ws z. subst (λ x. Denotes p ls Sum 64 x (front ++ t ∷ f)) (append_assoc us vs ws) (subst (λ x. Denotes p ls Sum 64 ((us ++ vs) ++ ws) x) q z))))
 
-  poly_of : (t : ℕ × Tree) (f : Poly) → IsCanonical cmp_monos p (t ∷ f) → AreFit (length ls) (t ∷ f) → length (t ∷ f) ≤ 65536 → Spelled (poly_text p ls (t ∷ f)) (λ ts. Denotes p ls Sum 64 ts (t ∷ f))
+  poly_of : (t : ℕ × Tree) (f : Poly) → IsCanonical cmp_monos p (t ∷ f) → ArePrintable (length ls) (t ∷ f) → length (t ∷ f) ≤ 65536 → Spelled (poly_text p ls (t ∷ f)) (λ ts. Denotes p ls Sum 64 ts (t ∷ f))
   poly_of t f c fit len =
       spelled-then ((cond (is_negative p t.0) (codes "-") []) ++ term_text p ls t) (flat_map (later_text p ls) f) (λ ts. Denotes p ls Sum 64 ts (t ∷ [])) (λ ts. Denotes p ls Sum 64 ts (t ∷ f))
       (first_by (is_negative p t.0) t.0 t.1 refl c.0 c.1 fit.0 fit.1)
       (λ us d. later us (t ∷ []) f c fit len d)
 
 zero_denotes : (p : ℕ) (ls : List ℕ) → TextDenotes p ls (codes "0") []
-unfolding tokens_from run value_after
+unfolding tokens_from digit_run value_after
 zero_denotes p ls at =
     let t : Token = record { kind = kinds.Number 0; from = at; to = at + 1 } in
     (t ∷ [], refl, grammar.one_term 64 (t ∷ []) [] (grammar.a_zero 64 t refl))

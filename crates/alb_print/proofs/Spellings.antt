@@ -1,15 +1,14 @@
 -- A printed monomial spells that monomial, in the grammar of monomials by themselves.
 use Rattle.std.proofs.Common.{◌≡◌, ℕ, zero, suc, ◌+◌, ◌≤◌, true, false, List, [], ◌∷◌, ◌++◌, length, Ok, refl, sym, ap, subst, arith}
 use Rattle.std.specs.Prelude.{slice_index}
-use Rattle.alb_mono.specs.Letters.{AreLetters}
-use Rattle.alb_mono.specs.Tree.{Tree, leaf, node, degree, are_below}
+use Rattle.alb_mono.specs.Tree.{AreLetters, Tree, leaf, node, degree, are_below}
 use Rattle.alb_mono.proofs.Both.{both_tests}
 use Rattle.alb_mono.proofs.Degrees.{degree_positive}
 use Rattle.alb_lex.specs.Lexing.{tokens_from}
 use Rattle.alb_lex.specs.declared.token.Token.{Token}
 use Rattle.alb_lex.specs.declared.token.TokenKind.TheVariants as kinds
-use Rattle.alb_syntax.specs.Monomials.{Spells, Part, Product, mono_denoted}
-use Rattle.alb_syntax.specs.Monomials as grammar
+use Rattle.alb_syntax.specs.Reading.{Spells, Part, Product, mono_denoted}
+use Rattle.alb_syntax.specs.Reading as grammar
 use Rattle.alb_syntax.proofs.Monomials.{mono-again}
 use Rattle.alb_print.specs.Text.{mono_text}
 use Rattle.alb_print.specs.Laws.{MonomialsSpellThemselves}

@@ -1,13 +1,12 @@
 -- The laws of the printed texts.
 use Rattle.std.specs.Prelude.{◌≡◌, ◌^◌, ℕ, ◌<◌, ◌≤◌, IsTrue, false, true, List, [], ◌∷◌, length, Ok}
 use Rattle.gf_sums.specs.Sums.{IsCanonical}
-use Rattle.alb_mono.specs.Letters.{AreLetters}
-use Rattle.alb_mono.specs.Tree.{Tree, degree, are_below, cmp_monos}
+use Rattle.alb_mono.specs.Tree.{AreLetters, Tree, degree, are_below, cmp_monos}
 use Rattle.alb_lex.specs.Lexing.{tokens_from}
 use Rattle.alb_lex.specs.declared.token.Token.{Token}
 use Rattle.alb_poly.specs.Poly.{Poly}
 use Rattle.alb_syntax.specs.Grammar.{Denotes, Sum}
-use Rattle.alb_syntax.specs.Monomials.{Spells, Product}
+use Rattle.alb_syntax.specs.Reading.{Spells, Product}
 use Rattle.alb_print.specs.Text.{mono_text, poly_text}
 
 -- the tokens of a text denote a polynomial, wherever in a line it stands
@@ -29,11 +28,11 @@ MonomialsSpellThemselves = (letters : List ℕ) (m : Tree) → AreLetters letter
     → TextSpells letters (mono_text letters false m) m
 
 -- each monomial is over the first n generators, and of degree at most 64
-abbrev pub AreFit : ℕ → Poly → Type 0
-AreFit n [] = Unit {0}
-AreFit n (t ∷ f) = (are_below n t.1 ≡ true) × (degree t.1 ≤ 64) × AreFit n f
+abbrev pub ArePrintable : ℕ → Poly → Type 0
+ArePrintable n [] = Unit {0}
+ArePrintable n (t ∷ f) = (are_below n t.1 ≡ true) × (degree t.1 ≤ 64) × ArePrintable n f
 
 -- a printed polynomial denotes that polynomial
 abbrev pub PolynomialsDenoteThemselves : Type 0
-PolynomialsDenoteThemselves = (p : ℕ) (letters : List ℕ) (f : Poly) → 1 < p → p < 2 ^ 16 → AreLetters letters → IsCanonical cmp_monos p f → AreFit (length letters) f
+PolynomialsDenoteThemselves = (p : ℕ) (letters : List ℕ) (f : Poly) → 1 < p → p < 2 ^ 16 → AreLetters letters → IsCanonical cmp_monos p f → ArePrintable (length letters) f
     → length f ≤ 65536 → TextDenotes p letters (poly_text p letters f) f

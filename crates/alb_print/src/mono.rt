@@ -1,7 +1,6 @@
 ghost use Rattle.std.specs.Prelude.{IsTrue, length, true, false};
 ghost use Rattle.alb_io.specs.Writes.{Writes};
-ghost use Rattle.alb_mono.specs.Mono.{tree};
-ghost use Rattle.alb_mono.specs.Tree.{are_below};
+ghost use Rattle.alb_mono.specs.Tree.{tree, are_below};
 ghost use Rattle.alb_print.specs.Text.{mono_text};
 
 use alb_io::{Sink, WriteFault, put_all};

@@ -1,8 +1,7 @@
 ghost use Rattle.std.specs.Prelude.{◌≡◌, ◌<◌, ◌==◌, IsTrue, All, length, [], if◌then◌else◌, decimal, slice_index_or};
 ghost use Rattle.std.specs.List.{flat_map};
 ghost use Rattle.alb_io.specs.Writes.{Writes};
-ghost use Rattle.alb_mono.specs.Mono.{tree};
-ghost use Rattle.alb_mono.specs.Tree.{are_below};
+ghost use Rattle.alb_mono.specs.Tree.{tree, are_below};
 ghost use Rattle.alb_poly.specs.Poly.{AreResidues};
 ghost use Rattle.alb_poly.specs.Terms.{term, terms};
 ghost use Rattle.alb_print.specs.Text.{absolute, is_negative, value_text, leading_sign, later_sign, leading_coefficient_text, later_coefficient_text, leading_text, later_text, poly_text};

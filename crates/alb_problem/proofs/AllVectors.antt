@@ -3,19 +3,16 @@ use Rattle.std.proofs.Common.{◌≡◌, ℕ, zero, suc, ◌+◌, ◌*◌, ◌<�
 use Rattle.std.specs.List.{flat_map}
 use Rattle.std.proofs.lemmas.List.{length-append, map-append, length-map}
 use Rattle.std.proofs.lemmas.Bool.{cases_lt}
-use Rattle.gf_field.specs.Primes.{IsPrime}
+use Rattle.gf_field.specs.Modular.{IsPrime}
 use Rattle.alb_mono.specs.Tree.{Tree, leaf, node, degree, count}
 use Rattle.gf_sums.specs.Sums.{Comb, weigh, scale}
 use Rattle.gf_sums.proofs.Totals.{total-equal, weigh-scale}
 use Rattle.gf_sums.proofs.Alike.{Alike, equal, itself, turned, joined, append-alike, scale-alike, weigh-flat}
 use Rattle.alb_poly.specs.Poly.{Poly}
-use Rattle.alb_poly.specs.Instance.{Form, numbered, first_number, linearization}
-use Rattle.alb_poly.specs.Instance.{leaves, run}
+use Rattle.alb_poly.specs.Instance.{Form, numbered, first_number, linearization, leaves, total_from, HasType, IsHomogeneous, IsMultilinearForm}
 use Rattle.alb_mono.specs.Listing.{Each}
 use Rattle.alb_poly.proofs.Multilinear.{each-append, linearization-multilinear, leaves-first, sum_cons}
-use Rattle.alb_poly.specs.Identity.{HasType, IsHomogeneous}
-use Rattle.alb_poly.specs.Instance.{IsMultilinearForm}
-use Rattle.alb_poly.specs.Algebra.{evaluate_poly, unit}
+use Rattle.alb_poly.specs.Textbook.{evaluate_poly, unit}
 use Rattle.alb_problem.proofs.FormValue.{form-linear, poly-equal}
 use Rattle.alb_problem.proofs.OneVariable.{vectors, put-seam}
 use Rattle.alb_problem.proofs.Polarize.{repeated}
@@ -103,7 +100,7 @@ degree-numbered : (next : ℕ → ℕ) (m : Tree) → degree (numbered next m) �
 degree-numbered next (leaf v) = refl
 degree-numbered next (node l r) = rw (degree-numbered next l, degree-numbered (λ v. next v + count v l) r)
 
-run-constant : (k n : ℕ) → run (λ j. 1) k n ≡ n
+run-constant : (k n : ℕ) → total_from (λ j. 1) k n ≡ n
 run-constant k zero = refl
 run-constant k (suc n) = omega (arith, run-constant (suc k) n)
 

@@ -1,19 +1,16 @@
 -- The value of a linearization at vectors is the sum over the arrangements of the vectors.
-use Rattle.std.proofs.Common.{◌≡◌, ℕ, zero, suc, ◌+◌, ◌*◌, List, [], ◌∷◌, map, drop, length, get_or, sum, sym, ap, ◌∙◌, subst, arith}
+use Rattle.std.proofs.Common.{◌≡◌, ℕ, zero, suc, ◌+◌, ◌*◌, List, [], ◌∷◌, map, drop, length, get_or, sum, sym, ap, ◌∙◌, subst, arith, drop-cons}
 use Rattle.std.proofs.lemmas.List.{get_or-map}
-use Rattle.std.proofs.Common.{drop-cons}
 use Rattle.std.proofs.Math.ListN.{drop_of_length-le}
 use Rattle.std.proofs.Math.Nat.{zero-add}
 use Rattle.alb_mono.specs.Tree.{Tree, leaf, node, AreBelow}
 use Rattle.gf_sums.specs.Sums.{total, Comb, weigh}
 use Rattle.gf_sums.proofs.Totals.{total-map, total-flat, total-times}
 use Rattle.alb_poly.specs.Poly.{Poly}
-use Rattle.alb_poly.specs.Instance.{fill, arrangements, numbered, first_number, positions, linearization}
+use Rattle.alb_poly.specs.Instance.{fill, arrangements, numbered, first_number, positions, linearization, HasType, IsHomogeneous, IsMultilinear}
 use Rattle.alb_poly.proofs.Orders.{arrangements-map}
-use Rattle.alb_poly.specs.Identity.{HasType, IsHomogeneous}
 use Rattle.alb_poly.proofs.Multilinear.{IsOrder, order-length, arrangements-order, positions-sum, leaves-first, multilinear-below}
-use Rattle.alb_poly.specs.Instance.{IsMultilinear}
-use Rattle.alb_poly.specs.Algebra.{evaluate, evaluate_poly}
+use Rattle.alb_poly.specs.Textbook.{evaluate, evaluate_poly}
 use Rattle.alb_problem.proofs.FormValue.{weigh-evaluate_poly}
 use Rattle.alb_problem.proofs.OneVariable.{vectors}
 use Rattle.alb_problem.proofs.Polarize.{total-each}

@@ -8,11 +8,10 @@ use Rattle.alb_mono.specs.Tree.{Tree}
 use Rattle.gf_sums.specs.Sums.{total, Comb, weigh, scale, multiply}
 use Rattle.gf_sums.proofs.Totals.{total-same, total-equal, total-times, total-swap, total-map, total-flat, weigh-append, weigh-scale, weigh-multiply, weigh-equal}
 use Rattle.alb_poly.specs.Poly.{Poly}
-use Rattle.alb_poly.specs.Instance.{orders, arrangements, numbered, first_number, linearization}
+use Rattle.alb_poly.specs.Instance.{orders, arrangements, numbered, first_number, linearization, HasType, IsHomogeneous}
 use Rattle.alb_mono.specs.Listing.{Each}
-use Rattle.alb_poly.specs.Identity.{HasType, IsHomogeneous}
 use Rattle.alb_poly.proofs.Multilinear.{IsOrder, order-length, orders-order, sum_cons}
-use Rattle.alb_poly.specs.Algebra.{evaluate, evaluate_poly}
+use Rattle.alb_poly.specs.Textbook.{evaluate, evaluate_poly}
 use Rattle.alb_problem.proofs.Evaluate.{weigh-swap}
 use Rattle.alb_problem.proofs.FormValue.{weigh-evaluate_poly}
 use Rattle.alb_problem.proofs.Polarize.{IsAdditive, repeated, gather, alternating, polarization}

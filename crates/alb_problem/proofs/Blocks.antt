@@ -5,10 +5,9 @@ use Rattle.std.proofs.Math.Nat.{zero-add, suc-add}
 use Rattle.std.proofs.lemmas.Bool.{eq-eqb}
 use Rattle.alb_mono.specs.Tree.{Tree, leaf, node, count, AreBelow}
 use Rattle.gf_sums.specs.Sums.{Comb}
-use Rattle.alb_poly.specs.Instance.{numbered, first_number}
-use Rattle.alb_poly.specs.Identity.{HasType}
+use Rattle.alb_poly.specs.Instance.{numbered, first_number, HasType}
 use Rattle.alb_poly.proofs.Multilinear.{sum_cons}
-use Rattle.alb_poly.specs.Algebra.{evaluate}
+use Rattle.alb_poly.specs.Textbook.{evaluate}
 use Rattle.alb_problem.proofs.Polarize.{repeated}
 use Rattle.alb_problem.proofs.OneVariable.{vectors}
 

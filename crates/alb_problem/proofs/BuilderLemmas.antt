@@ -3,28 +3,26 @@ use Rattle.std.proofs.Common.{◌≡◌, ℕ, List, [], ◌∷◌, None, All, Is
 use Rattle.alb_mono.specs.Listing.{Each}
 use Rattle.alb_mono.specs.Tree.{AreBelow, are_below}
 use Rattle.alb_mono.proofs.Leaves.{below_from_test}
-use Rattle.alb_poly.specs.Poly.{Poly}
-use Rattle.alb_poly.specs.Normal.{normal}
-use Rattle.alb_poly.specs.Instance.{Form, linearization}
-use Rattle.alb_poly.specs.Identity.{IsHomogeneous, AreHomogeneous, AreSameForms, linearizations}
+use Rattle.alb_poly.specs.Poly.{Poly, normal}
+use Rattle.alb_poly.specs.Instance.{Form, linearization, IsHomogeneous, AreHomogeneous, AreSameForms, linearizations}
 use Rattle.alb_poly.proofs.Multilinear.{each-from}
 use Rattle.alb_poly.proofs.NormalLemmas.{normal-same}
 use Rattle.alb_linear.specs.Identity.{leading_type, identity_fault, IsLinearized}
 use Rattle.alb_linear.specs.declared.identity.Identity.{Identity}
 use Rattle.alb_linear.proofs.LinearLemmas.{each_from_all, identity-fits, homogeneous, same_type}
-use Rattle.alb_problem.specs.Builder.{IsKept, linear_form, with_degrees}
+use Rattle.alb_problem.specs.Builder.{IsKeptIdentity, linear_form, with_degrees}
 
 -- what holds of the polynomials holds of the identities
-pub kept-identities : (p : ℕ) (fs : List Identity) → Each (IsKept p) (map (λ f. f.poly) fs) → Each (λ f. IsKept p f.poly) fs
+pub kept-identities : (p : ℕ) (fs : List Identity) → Each (IsKeptIdentity p) (map (λ f. f.poly) fs) → Each (λ f. IsKeptIdentity p f.poly) fs
 kept-identities p [] h = tt
 kept-identities p (f ∷ fs) h = (h.0, kept-identities p fs h.1)
 
-linearized_forms : (p : ℕ) (fs : List Identity) → Each (IsKept p) (map (λ f. f.poly) fs) → Each (IsLinearized p) (map (λ f. linear_form p f.poly) fs)
+linearized_forms : (p : ℕ) (fs : List Identity) → Each (IsKeptIdentity p) (map (λ f. f.poly) fs) → Each (IsLinearized p) (map (λ f. linear_form p f.poly) fs)
 linearized_forms p [] h = tt
 linearized_forms p (f ∷ fs) h = (h.0.linearized, linearized_forms p fs h.1)
 
 -- the forms that stand for kept identities are linearized
-pub forms-linearized : (p : ℕ) (fs : List Identity) (ls : List Form) → Each (IsKept p) (map (λ f. f.poly) fs) → ls ≡ map (λ f. linear_form p f.poly) fs → Each (IsLinearized p) ls
+pub forms-linearized : (p : ℕ) (fs : List Identity) (ls : List Form) → Each (IsKeptIdentity p) (map (λ f. f.poly) fs) → ls ≡ map (λ f. linear_form p f.poly) fs → Each (IsLinearized p) ls
 forms-linearized p fs ls h e = subst (λ q. Each (IsLinearized p) q) (sym e) (linearized_forms p fs h)
 
 -- a polynomial in the 26 letters without a fault has terms of one type
@@ -42,7 +40,7 @@ pub same-form : (p : ℕ) (f : Poly) (l : Form) → l.degree ≡ sum (leading_ty
 same-form p f l d t = ap (λ n. made n l.terms) d ∙ ap (made (sum (leading_type f))) t
 
 -- what a builder keeps is homogeneous
-pub homogeneous-kept : (p : ℕ) (fs : List Identity) → Each (IsKept p) (map (λ f. f.poly) fs) → AreHomogeneous (map (λ f. with_degrees f.poly) fs)
+pub homogeneous-kept : (p : ℕ) (fs : List Identity) → Each (IsKeptIdentity p) (map (λ f. f.poly) fs) → AreHomogeneous (map (λ f. with_degrees f.poly) fs)
 homogeneous-kept p [] h = tt
 homogeneous-kept p (f ∷ fs) h = (h.0.homogeneous, homogeneous-kept p fs h.1)
 

@@ -2,19 +2,17 @@
 use Rattle.std.proofs.Common.{◌≡◌, ℕ, zero, suc, ◌*◌, ◌<◌, List, [], ◌∷◌, ◌++◌, map, take, drop, length, sum, sym, refl, ap, ◌∙◌, subst, arith}
 use Rattle.std.proofs.lemmas.List.{length-drop, length-take-le}
 use Rattle.std.proofs.Math.Nat.{mul_assoc, mul_comm, mul_left_comm}
-use Rattle.gf_field.specs.Primes.{IsPrime}
-use Rattle.gf_field.specs.Modular.{IsUnit}
+use Rattle.gf_field.specs.Modular.{IsPrime, IsUnit}
 use Rattle.gf_field.proofs.Mod.{same, ◌⊙◌, times, unit_times}
 use Rattle.alb_mono.specs.Tree.{Tree}
 use Rattle.gf_sums.specs.Sums.{total, Comb, weigh, scale}
 use Rattle.gf_sums.proofs.Totals.{total-equal, total-map, total-flat, total-times, weigh-scale}
 use Rattle.gf_sums.proofs.Alike.{Alike}
 use Rattle.alb_poly.specs.Poly.{Poly}
-use Rattle.alb_poly.specs.Instance.{insertions, orders, arrangements, numbered, first_number, fill, positions, linearization}
+use Rattle.alb_poly.specs.Instance.{insertions, orders, arrangements, numbered, first_number, fill, positions, linearization, HasType, IsHomogeneous}
 use Rattle.alb_mono.specs.Listing.{Each}
 use Rattle.alb_poly.proofs.Multilinear.{each-map, each-flat, IsOrder, order-length, orders-order, sum_cons, length_total, positions-sum}
-use Rattle.alb_poly.specs.Identity.{HasType, IsHomogeneous}
-use Rattle.alb_poly.specs.Algebra.{evaluate, evaluate_poly}
+use Rattle.alb_poly.specs.Textbook.{evaluate, evaluate_poly}
 use Rattle.alb_poly.proofs.Extra.{factorial, unit_factorial}
 use Rattle.alb_problem.proofs.Polarize.{repeated, total-each}
 use Rattle.alb_problem.proofs.OneVariable.{vectors}

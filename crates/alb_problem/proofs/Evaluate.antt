@@ -4,7 +4,7 @@ use Rattle.std.proofs.lemmas.Bool.{cases_eq}
 use Rattle.std.proofs.lemmas.Bool.Decides.{nat_tests}
 use Rattle.alb_mono.specs.Tree.{Tree, leaf, node, count}
 use Rattle.gf_sums.specs.Sums.{Comb, weigh}
-use Rattle.alb_poly.specs.Algebra.{evaluate, unit, put}
+use Rattle.alb_poly.specs.Textbook.{evaluate, unit, put}
 use Rattle.gf_sums.proofs.Totals.{weigh-equal, weigh-multiply}
 pub use Rattle.gf_sums.proofs.Totals.{weigh-swap}
 

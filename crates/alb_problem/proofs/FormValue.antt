@@ -1,31 +1,26 @@
 -- The value of a multilinear form at vectors is linear at each of its positions.
-use Rattle.std.proofs.Common.{◌≡◌, ℕ, zero, suc, ◌+◌, ◌<◌, ◌≤◌, true, false, [], ◌∷◌, sym, refl, ap, ◌∙◌, arith}
+use Rattle.std.proofs.Common.{◌≡◌, ℕ, zero, suc, ◌+◌, ◌<◌, ◌≤◌, true, false, [], ◌∷◌, sym, refl, ap, ◌∙◌, arith, inl, inr, eqb}
 use Rattle.std.specs.Bool.{if◌then◌else◌, ◌==◌}
 use Rattle.std.proofs.lemmas.Bool.Decides.{nat_tests}
 use Rattle.std.proofs.lemmas.Bool.{cases_eq}
-use Rattle.std.proofs.Common.{inl, inr}
-use Rattle.std.proofs.Common.{eqb}
 use Rattle.alb_mono.specs.Tree.{Tree, leaf, node, count}
 use Rattle.gf_sums.specs.Sums.{Comb, weigh}
-use Rattle.gf_sums.proofs.Totals.{weigh-equal}
+use Rattle.gf_sums.proofs.Totals.{weigh-equal, weigh-swap}
 use Rattle.gf_field.specs.Modular.{IsSameMod}
 use Rattle.gf_field.proofs.Mod.{same, ◌⊙◌, plus, times}
 use Rattle.gf_sums.proofs.Alike.{Alike}
-use Rattle.alb_poly.specs.Instance.{Form}
-use Rattle.alb_poly.specs.Instance.{run}
-use Rattle.alb_poly.specs.Instance.{IsMultilinear, IsMultilinearForm}
+use Rattle.alb_poly.specs.Instance.{Form, total_from, IsMultilinear, IsMultilinearForm}
 use Rattle.alb_poly.proofs.Parts.{count-leaves, weigh-each}
 pub use Rattle.alb_poly.proofs.Evaluate.{weigh-evaluate_poly}
-use Rattle.gf_sums.proofs.Totals.{weigh-swap}
 use Rattle.alb_problem.proofs.Evaluate.{evaluate-linear}
-use Rattle.alb_poly.specs.Algebra.{evaluate, evaluate_poly, unit, put}
+use Rattle.alb_poly.specs.Textbook.{evaluate, evaluate_poly, unit, put}
 
 -- each position below `n` occurs once
-run-none : (k i n : ℕ) → k < i → run (λ j. if j == k then 1 else 0) i n ≡ 0
+run-none : (k i n : ℕ) → k < i → total_from (λ j. if j == k then 1 else 0) i n ≡ 0
 run-none k i zero h = refl
 run-none k i (suc n) h = let e : eqb i k ≡ false = grind (arith, nat_tests) in rw e (omega (arith, run-none k (suc i) n (omega arith)))
 
-run-one : (k i n : ℕ) → i ≤ k → k < i + n → run (λ j. if j == k then 1 else 0) i n ≡ 1
+run-one : (k i n : ℕ) → i ≤ k → k < i + n → total_from (λ j. if j == k then 1 else 0) i n ≡ 1
 run-one k i zero h l = absurd (omega arith)
 run-one k i (suc n) h l = elim (cases_eq i k) [
   | inl e ↦ let q : eqb i k ≡ true = grind (arith, nat_tests) in rw q (omega (arith, run-none k (suc i) n (omega arith)))

@@ -2,10 +2,8 @@
 use Rattle.std.proofs.Common.{◌≡◌, ℕ, zero, suc, List, [], ◌∷◌, length, sym, refl, ap, ◌∙◌, arith}
 use Rattle.gf_sums.proofs.Alike.{Alike, itself, turned, joined, append-alike, scale-alike, reindex-alike}
 use Rattle.alb_poly.specs.Poly.{Poly}
-use Rattle.alb_poly.specs.Context.{within}
-use Rattle.alb_poly.specs.Instance.{fill, Form}
-use Rattle.alb_poly.specs.Consequence.{form_at, Item, AreItems, IsConsequence}
-use Rattle.alb_poly.specs.Identity.{IsSameForm, AreSameForms}
+use Rattle.alb_poly.specs.Consequence.{within, form_at, Item, AreItems, IsConsequence}
+use Rattle.alb_poly.specs.Instance.{fill, Form, IsSameForm, AreSameForms}
 use Rattle.alb_poly.proofs.Consequence.{value, alike_poly, poly_alike}
 
 module _ (p : ℕ) where

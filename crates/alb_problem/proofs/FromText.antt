@@ -9,33 +9,26 @@ use Rattle.std.proofs.lemmas.List as Lists
 use Rattle.std.proofs.lemmas.List.Elements.{filter-append}
 use Rattle.std.proofs.lemmas.Bool.{cases_lt}
 use Rattle.std.proofs.lemmas.Bool.Decides.{nat_tests}
-use Rattle.gf_field.specs.Primes.{IsPrime}
+use Rattle.gf_field.specs.Modular.{IsPrime}
 use Rattle.alb_mono.specs.Tree.{Tree, leaf, node, degree, AreBelow}
 use Rattle.gf_sums.specs.Sums.{weigh, scale}
 use Rattle.gf_sums.proofs.Totals.{weigh-equal, weigh-multiply}
 use Rattle.gf_sums.proofs.Alike.{Alike, equal, turned, joined, weigh-reindex}
 use Rattle.alb_poly.specs.Poly.{Poly}
-use Rattle.alb_poly.specs.Context.{within}
-use Rattle.alb_poly.specs.Instance.{fill, Form, instance, linearization}
-use Rattle.alb_poly.specs.Consequence.{form_at, IsConsequence}
+use Rattle.alb_poly.specs.Consequence.{within, form_at, IsConsequence, AreMultilinear}
+use Rattle.alb_poly.specs.Instance.{fill, Form, instance, linearization, HasType, IsHomogeneous, IsMultilinear, IsMultilinearForm, Identity, AreHomogeneous, linearizations, polynomials}
 use Rattle.alb_mono.specs.Listing.{Each}
 use Rattle.alb_linear.proofs.LinearLemmas.{degree-pos}
 use Rattle.alb_mono.proofs.ListingLemmas.{each-always}
 use Rattle.alb_poly.proofs.Multilinear.{each-flat, each-map, multilinear-below, linearization-multilinear}
-use Rattle.alb_poly.specs.Identity.{HasType, IsHomogeneous}
-use Rattle.alb_poly.specs.Instance.{IsMultilinear, IsMultilinearForm}
-use Rattle.alb_poly.specs.Consequence.{AreMultilinear}
 use Rattle.alb_poly.proofs.Parts.{each_at, weigh-keep, weigh-zero, weigh-each}
-use Rattle.alb_poly.proofs.Consequence.{alike_poly, consequence-zero, consequence-append, consequence-scale}
-use Rattle.alb_poly.proofs.Consequence.{consequence-instance}
-use Rattle.alb_poly.specs.Algebra.{evaluate, evaluate_poly, unit}
+use Rattle.alb_poly.proofs.Consequence.{alike_poly, consequence-zero, consequence-append, consequence-scale, consequence-instance}
+use Rattle.alb_poly.specs.Textbook.{evaluate, evaluate_poly, unit, free_product, value_at, Instance, instance_value, IsTextConsequence}
 use Rattle.alb_poly.proofs.Evaluate.{weigh-evaluate_poly}
 use Rattle.alb_poly.proofs.Ideals.{weigh-instance}
 use Rattle.alb_problem.proofs.OneVariable.{vectors}
-use Rattle.alb_poly.specs.Textbook.{free_product, value_at, Instance, instance_value, IsTextConsequence}
 use Rattle.alb_problem.proofs.AllVectors.{identity-closed, degree-type, small_or_large}
 use Rattle.alb_problem.proofs.Low.{low, IsLow, low-alike, low-same, degree-within, consequence-alike, closed-consequence, consequence-within, consequence-low}
-use Rattle.alb_poly.specs.Identity.{Identity, AreHomogeneous, linearizations, polynomials}
 
 -- ---- values at monomials are instances
 

@@ -12,7 +12,7 @@ use Rattle.std.proofs.Math.Seq.{get_or-append_seam}
 use Rattle.alb_poly.proofs.Multilinear.{sum_cons}
 use Rattle.alb_lex.specs.declared.token.Token.{Token}
 use Rattle.alb_lex.specs.declared.token.TokenKind.TheVariants.{Letter, Number}
-use Rattle.alb_problem.specs.Generators.{letter_of, count_of, letters, counts, fits, fault_from, are_whole, AreBegun}
+use Rattle.alb_problem.specs.Builder.{letter_of, count_of, letters, counts, may_follow, fault_from, are_whole, AreBegun}
 
 -- what a count that fits says
 pub record IsCount (ls ns : List ℕ) (n : ℕ) : Type 0 where
@@ -20,7 +20,7 @@ pub record IsCount (ls ns : List ℕ) (n : ℕ) : Type 0 where
   pub positive : 0 < n
   pub low : sum ns + n ≤ 12
 
-pub fits-count : (ls ns : List ℕ) (n : ℕ) → fits ls ns (Number n) ≡ true → IsCount ls ns n
+pub fits-count : (ls ns : List ℕ) (n : ℕ) → may_follow ls ns (Number n) ≡ true → IsCount ls ns n
 fits-count ls ns n h = record { whole = grind (arith, nat_tests); positive = grind (arith, nat_tests); low = grind (arith, nat_tests) }
 
 -- what a letter that fits says
@@ -30,7 +30,7 @@ pub record IsNewLetter (ls ns : List ℕ) (c : ℕ) : Type 0 where
   pub below : c ≤ 122
   pub unnamed : list_any (λ l. l == c) ls ≡ false
 
-pub fits-letter : (ls ns : List ℕ) (c : ℕ) → fits ls ns (Letter c) ≡ true → IsNewLetter ls ns c
+pub fits-letter : (ls ns : List ℕ) (c : ℕ) → may_follow ls ns (Letter c) ≡ true → IsNewLetter ls ns c
 fits-letter ls ns c h = record { missing = grind (arith, nat_tests); above = grind (arith, nat_tests); below = grind (arith, nat_tests); unnamed = grind (arith, nat_tests) }
 
 -- no more counts than their sum
@@ -55,7 +55,7 @@ different-more ls c h none = λ i j d lt within e.
     ]
 
 -- one more letter
-pub begun-letter : (ls ns : List ℕ) (c : ℕ) → AreBegun ls ns → fits ls ns (Letter c) ≡ true → AreBegun (ls ++ c ∷ []) ns
+pub begun-letter : (ls ns : List ℕ) (c : ℕ) → AreBegun ls ns → may_follow ls ns (Letter c) ≡ true → AreBegun (ls ++ c ∷ []) ns
 begun-letter ls ns c b h =
     let f = fits-letter ls ns c h in
     let long : length (ls ++ c ∷ []) ≡ length ls + 1 = length-append ls (c ∷ []) in
@@ -76,11 +76,11 @@ flat-more g xs i d h =
 -- the fault at one more token
 pub fault-next : (ts : List Token) (end i : ℕ) (d : Token) → i < length ts →
     fault_from (take i ts) (drop i ts) end
-    ≡ (if fits (letters (take i ts)) (counts (take i ts)) (get_or ts i d).kind then fault_from (take (i + 1) ts) (drop (i + 1) ts) end else Some (get_or ts i d).from)
+    ≡ (if may_follow (letters (take i ts)) (counts (take i ts)) (get_or ts i d).kind then fault_from (take (i + 1) ts) (drop (i + 1) ts) end else Some (get_or ts i d).from)
 fault-next ts end i d h =
     let here : drop i ts ≡ get_or ts i d ∷ drop (i + 1) ts = rw add-one (drop-cons ts i d h) in
     ap (λ r. fault_from (take i ts) r end) here
-    ∙ ap (λ b. if fits (letters (take i ts)) (counts (take i ts)) (get_or ts i d).kind then fault_from b (drop (i + 1) ts) end else Some (get_or ts i d).from) (sym (take_more ts i d h))
+    ∙ ap (λ b. if may_follow (letters (take i ts)) (counts (take i ts)) (get_or ts i d).kind then fault_from b (drop (i + 1) ts) end else Some (get_or ts i d).from) (sym (take_more ts i d h))
 
 -- what the loop keeps behind `i` tokens
 pub record Goes (ts : List Token) (end i : ℕ) (ls ns : List ℕ) : Type 0 where
@@ -98,10 +98,10 @@ goes-first ts end = record {
 }
 
 -- a token that fits
-pub goes-next : (ts : List Token) (end i : ℕ) (d : Token) (ls ns ls' ns' : List ℕ) → i < length ts → Goes ts end i ls ns → fits ls ns (get_or ts i d).kind ≡ true →
+pub goes-next : (ts : List Token) (end i : ℕ) (d : Token) (ls ns ls' ns' : List ℕ) → i < length ts → Goes ts end i ls ns → may_follow ls ns (get_or ts i d).kind ≡ true →
     ls' ≡ ls ++ letter_of (get_or ts i d).kind → ns' ≡ ns ++ count_of (get_or ts i d).kind → AreBegun ls' ns' → Goes ts end (i + 1) ls' ns'
 goes-next ts end i d ls ns ls' ns' h g fit e f begun =
-    let here : fits (letters (take i ts)) (counts (take i ts)) (get_or ts i d).kind ≡ true = rw (← g.letters, ← g.counts) fit in
+    let here : may_follow (letters (take i ts)) (counts (take i ts)) (get_or ts i d).kind ≡ true = rw (← g.letters, ← g.counts) fit in
     record {
       begun = begun;
       letters = e ∙ ap (λ q. q ++ letter_of (get_or ts i d).kind) g.letters ∙ sym (flat-more (λ t. letter_of t.kind) ts i d h);
@@ -110,10 +110,10 @@ goes-next ts end i d ls ns ls' ns' h g fit e f begun =
     }
 
 -- a token that does not fit
-pub goes-wrong : (ts : List Token) (end i : ℕ) (d : Token) (ls ns : List ℕ) → i < length ts → Goes ts end i ls ns → fits ls ns (get_or ts i d).kind ≡ false →
+pub goes-wrong : (ts : List Token) (end i : ℕ) (d : Token) (ls ns : List ℕ) → i < length ts → Goes ts end i ls ns → may_follow ls ns (get_or ts i d).kind ≡ false →
     fault_from [] ts end ≡ Some (get_or ts i d).from
 goes-wrong ts end i d ls ns h g wrong =
-    let here : fits (letters (take i ts)) (counts (take i ts)) (get_or ts i d).kind ≡ false = rw (← g.letters, ← g.counts) wrong in
+    let here : may_follow (letters (take i ts)) (counts (take i ts)) (get_or ts i d).kind ≡ false = rw (← g.letters, ← g.counts) wrong in
     g.so_far ∙ fault-next ts end i d h ∙ rw here refl
 
 -- behind the last token

@@ -14,9 +14,8 @@ use Rattle.alb_mono.specs.Tree.{Tree, node, same_tree}
 use Rattle.alb_mono.specs.declared.side.Side.{Side}
 use Rattle.alb_mono.specs.declared.side.Side.TheVariants.{Left, Right}
 use Rattle.alb_poly.specs.Poly.{Poly}
-use Rattle.alb_poly.specs.Context.{within}
+use Rattle.alb_poly.specs.Consequence.{within, Item, form_at, IsItem, AreItems, IsConsequence, AreMultilinear}
 use Rattle.alb_poly.specs.Instance.{fill, Form, leaves, IsMultilinear}
-use Rattle.alb_poly.specs.Consequence.{Item, form_at, IsItem, AreItems, IsConsequence, AreMultilinear}
 use Rattle.alb_poly.proofs.Multilinear.{each-from, leaves-multilinear}
 use Rattle.alb_poly.proofs.Parts.{multilinear_at, weigh-keep, weigh-zero}
 use Rattle.alb_poly.proofs.Consequence.{tree_tells, value, alike_poly, poly_alike}

@@ -6,7 +6,7 @@ use Rattle.gf_sums.proofs.Totals.{numbers-tell}
 use Rattle.gf_sums.proofs.Alike.{alike-same, same-alike}
 use Rattle.alb_mono.specs.Listing.{Each}
 use Rattle.alb_poly.specs.Poly.{Poly}
-use Rattle.alb_poly.specs.Identity.{linearizations}
+use Rattle.alb_poly.specs.Instance.{linearizations}
 use Rattle.alb_problem.proofs.Forms.{consequence-forms}
 use Rattle.alb_mono.proofs.ListingLemmas.{each-always}
 use Rattle.alb_problem.proofs.ToText.{text-from_consequence}

@@ -10,10 +10,8 @@ use Rattle.gf_sums.proofs.Alike.{Alike, equal, weigh-reindex}
 use Rattle.alb_poly.specs.Poly.{Poly}
 use Rattle.alb_mono.specs.declared.side.Side.{Side}
 use Rattle.alb_mono.specs.declared.side.Side.TheVariants.{Left, Right}
-use Rattle.alb_poly.specs.Context.{beside, within}
+use Rattle.alb_poly.specs.Consequence.{beside, within, Item, IsConsequence, AreMultilinear}
 use Rattle.alb_poly.specs.Instance.{fill, Form}
-use Rattle.alb_poly.specs.Consequence.{Item, IsConsequence}
-use Rattle.alb_poly.specs.Consequence.{AreMultilinear}
 use Rattle.alb_poly.proofs.Consequence.{poly_alike, consequence-same, consequence-zero, consequence-append, consequence-scale, consequence-beside}
 use Rattle.alb_problem.proofs.Keep.{keep-alike, keep-same, item_leaves, leaves-item, consequence-keep}
 use Rattle.alb_problem.proofs.AllVectors.{IsClosed, degree-leaves}

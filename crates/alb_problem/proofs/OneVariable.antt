@@ -8,9 +8,8 @@ use Rattle.gf_field.specs.Modular.{IsSameMod}
 use Rattle.alb_mono.specs.Tree.{Tree}
 use Rattle.gf_sums.specs.Sums.{total, Comb, weigh}
 use Rattle.gf_sums.proofs.Totals.{weigh-append}
-use Rattle.alb_poly.specs.Instance.{orders}
-use Rattle.alb_poly.specs.Instance.{IsMultilinear}
-use Rattle.alb_poly.specs.Algebra.{evaluate, unit, put}
+use Rattle.alb_poly.specs.Instance.{orders, IsMultilinear}
+use Rattle.alb_poly.specs.Textbook.{evaluate, unit, put}
 use Rattle.alb_problem.proofs.Evaluate.{evaluate-linear}
 use Rattle.alb_problem.proofs.FormValue.{evaluate-equal, count-multilinear}
 use Rattle.alb_problem.proofs.Polarize.{IsAdditive, alternating, polarization}

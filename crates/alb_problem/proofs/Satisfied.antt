@@ -2,18 +2,15 @@
 use Rattle.std.proofs.Common.{◌≡◌, ℕ, zero, suc, ◌+◌, ◌*◌, ◌<◌, ◌≤◌, List, [], ◌∷◌, map, length, get_or, sum, sym, refl, ap, ◌∙◌, subst, arith, inl, inr}
 use Rattle.std.specs.List.{flat_map}
 use Rattle.std.proofs.lemmas.Bool.{cases_lt}
-use Rattle.gf_field.specs.Primes.{IsPrime}
+use Rattle.gf_field.specs.Modular.{IsPrime}
 use Rattle.alb_mono.specs.Tree.{Tree, leaf, node, degree}
 use Rattle.gf_sums.specs.Sums.{total, Comb, weigh, scale}
 use Rattle.gf_sums.proofs.Alike.{Alike, equal, itself, append-alike, scale-alike}
 use Rattle.alb_poly.specs.Poly.{Poly}
-use Rattle.alb_poly.specs.Instance.{Form, linearization}
-use Rattle.alb_poly.specs.Instance.{leaves, run}
+use Rattle.alb_poly.specs.Instance.{Form, linearization, leaves, total_from, IsHomogeneous, IsMultilinear, IsMultilinearForm}
 use Rattle.alb_mono.specs.Listing.{Each}
 use Rattle.alb_poly.proofs.Multilinear.{each-map, each-flat, each-from}
-use Rattle.alb_poly.specs.Identity.{IsHomogeneous}
-use Rattle.alb_poly.specs.Instance.{IsMultilinear, IsMultilinearForm}
-use Rattle.alb_poly.specs.Algebra.{evaluate, evaluate_poly, unit}
+use Rattle.alb_poly.specs.Textbook.{evaluate, evaluate_poly, unit}
 use Rattle.alb_problem.proofs.OneVariable.{vectors}
 use Rattle.alb_problem.proofs.FormValue.{weigh-evaluate_poly}
 use Rattle.alb_poly.proofs.Parts.{weigh-each, weigh-zero}
@@ -59,11 +56,11 @@ pub record IsGraded {I : Type 0} (prod : I → I → Comb I) (P : I → Type 0) 
   pub bounded : (i : I) → P i → grade i ≤ top
   pub products : (i j : I) → P i → P j → Each (λ t. P t.1 × (grade i + grade j ≤ grade t.1)) (prod i j)
 
-run-shift : (w : ℕ → ℕ) (k n : ℕ) → run w (suc k) n ≡ run (λ v. w (suc v)) k n
+run-shift : (w : ℕ → ℕ) (k n : ℕ) → total_from w (suc k) n ≡ total_from (λ v. w (suc v)) k n
 run-shift w k zero = refl
 run-shift w k (suc n) = ap (λ j. w (suc k) + j) (run-shift w (suc k) n)
 
-run-map : {X : Type 0} (g : X → ℕ) (b : List X) → run (λ v. get_or (map g b) v 0) 0 (length b) ≡ total g b
+run-map : {X : Type 0} (g : X → ℕ) (b : List X) → total_from (λ v. get_or (map g b) v 0) 0 (length b) ≡ total g b
 run-map g [] = refl
 run-map g (x ∷ b) = ap (λ j. g x + j) (run-shift (λ v. get_or (g x ∷ map g b) v 0) 0 (length b) ∙ run-map g b)
 
@@ -103,7 +100,7 @@ module _ {I : Type 0} (prod : I → I → Comb I) (P : I → Type 0) (grade : I 
       weigh-evaluate_poly prod (vectors (map unit b)) w f.terms
       ∙ weigh-each (IsMultilinear f.degree) _ (λ m. 0) f.terms
       (λ m k. ap (weigh w) (too_high (leaves (λ v. get_or (map grade b) v 0) m) (evaluate prod (vectors (map unit b)) m)
-      (subst (λ j. top < j) (sym (k (λ v. get_or (map grade b) v 0) ∙ ap (run (λ v. get_or (map grade b) v 0) 0) (sym n) ∙ run-map grade b)) h)
+      (subst (λ j. top < j) (sym (k (λ v. get_or (map grade b) v 0) ∙ ap (total_from (λ v. get_or (map grade b) v 0) 0) (sym n) ∙ run-map grade b)) h)
       (graded-value (vectors (map unit b)) (λ v. get_or (map grade b) v 0) (unit_grades b o) m)))
       multi
       ∙ weigh-zero f.terms)

@@ -9,31 +9,24 @@ use Rattle.std.proofs.lemmas.List.Elements.{All-append, All-cons, All-nil}
 use Rattle.alb_lex.specs.declared.token.Token.{Token}
 use Rattle.alb_lex.specs.declared.token.TokenKind.{TokenKind}
 use Rattle.alb_lex.specs.declared.token.TokenKind.TheVariants as kinds
-use Rattle.gf_field.specs.Primes.{IsInTable, is_in_table}
+use Rattle.gf_field.specs.Modular.{IsInTable, is_in_table}
 use Rattle.gf_field.proofs.Table.{IsPrime-from_table}
-use Rattle.alb_mono.specs.Letters.{AreLetters}
+use Rattle.alb_mono.specs.Tree.{AreLetters, Tree, are_below}
 use Rattle.alb_mono.specs.Listing.{Each}
-use Rattle.alb_mono.specs.Tree.{Tree, are_below}
 use Rattle.alb_mono.proofs.LetterLemmas.{AreLetters-from_different}
-use Rattle.alb_poly.specs.Poly.{Poly, AreResidues}
-use Rattle.alb_poly.specs.Normal.{normal}
-use Rattle.alb_poly.specs.Instance.{Form, linearization, IsMultilinear}
-use Rattle.alb_poly.specs.Identity.{IsHomogeneous, AreHomogeneous, linearizations, polynomials, AreSameForms}
-use Rattle.alb_poly.specs.Consequence.{IsConsequence, AreMultilinear}
-use Rattle.alb_poly.specs.Rules.{forms}
+use Rattle.alb_poly.specs.Poly.{Poly, AreResidues, normal}
+use Rattle.alb_poly.specs.Instance.{Form, linearization, IsMultilinear, IsHomogeneous, AreHomogeneous, linearizations, polynomials, AreSameForms}
+use Rattle.alb_poly.specs.Consequence.{IsConsequence, AreMultilinear, forms}
 use Rattle.alb_poly.specs.Textbook.{IsTextConsequence}
 use Rattle.alb_poly.proofs.NormalLemmas.{normal-same, normal-each, normal-residues}
 use Rattle.alb_poly.proofs.Multilinear.{each-append, each-map, sum_cons, linearization-multilinear}
 use Rattle.alb_linear.specs.Identity as identity
-use Rattle.alb_linear.specs.Identity.{leading_type, identity_fault, type_fault, degree_fault, other_term, linear_count, Fault, IsLinearized}
+use Rattle.alb_linear.specs.Identity.{leading_type, identity_fault, type_fault, degree_fault, other_term, linear_count, IdentityFault, IsLinearized}
 use Rattle.alb_linear.specs.declared.identity.Identity.{Identity}
 use Rattle.alb_linear.proofs.LinearLemmas.{IsFit, identity-fits, degree-pos}
-use Rattle.alb_problem.specs.Builder.{Builder, linear_form, with_degrees}
-use Rattle.alb_problem.specs.Generators.{letters, counts, letter_of, count_of, fits, are_whole, fault_from, generators_fault, AreBegun, AreGenerators}
+use Rattle.alb_problem.specs.Builder.{Builder, linear_form, with_degrees, letters, counts, letter_of, count_of, may_follow, are_whole, fault_from, generators_fault, AreBegun, AreGenerators, field_refusal, bad_generators, generators_refusal, identity_refusal, fault_refusal, finish_refusal, forms_of, IsSoundProblem}
 use Rattle.alb_problem.specs.Problem.{problem, IsAccepted}
-use Rattle.alb_problem.specs.Refusals as refusals
-use Rattle.alb_problem.specs.Refusals.{field_refusal, bad_generators, generators_refusal, identity_refusal, fault_refusal, finish_refusal}
-use Rattle.alb_problem.specs.Sound.{forms_of, IsSoundProblem}
+use Rattle.alb_problem.specs.Builder as refusals
 use Rattle.alb_problem.specs.declared.problem.Problem.{Problem}
 use Rattle.alb_problem.proofs.BuilderLemmas.{homogeneous-no_fault}
 use Rattle.alb_problem.proofs.GeneratorLemmas.{fits-count, begun-letter}
@@ -59,7 +52,7 @@ sum-push : (ns : List ℕ) (n : ℕ) → sum (ns ++ n ∷ []) ≡ sum ns + n
 sum-push [] n = omega (arith, sum_cons n [])
 sum-push (m ∷ ns) n = omega (arith, sum_cons m ns, sum_cons m (ns ++ n ∷ []), sum-push ns n)
 
-begun-count : (ls ns : List ℕ) (n : ℕ) → AreBegun ls ns → fits ls ns (kinds.Number n) ≡ true → AreBegun ls (ns ++ n ∷ [])
+begun-count : (ls ns : List ℕ) (n : ℕ) → AreBegun ls ns → may_follow ls ns (kinds.Number n) ≡ true → AreBegun ls (ns ++ n ∷ [])
 begun-count ls ns n a h =
     let f = fits-count ls ns n h in
     record {
@@ -70,7 +63,7 @@ begun-count ls ns n a h =
       within = omega (arith, a.within, length-append ns (n ∷ []));
     }
 
-begun-token : (ls ns : List ℕ) (k : TokenKind) → fits ls ns k ≡ true → AreBegun ls ns → AreBegun (ls ++ letter_of k) (ns ++ count_of k)
+begun-token : (ls ns : List ℕ) (k : TokenKind) → may_follow ls ns k ≡ true → AreBegun ls ns → AreBegun (ls ++ letter_of k) (ns ++ count_of k)
 begun-token ls ns (kinds.Number n) h a = subst (λ l. AreBegun l (ns ++ n ∷ [])) (sym (append-nil ls)) (begun-count ls ns n a h)
 begun-token ls ns (kinds.Letter c) h a = subst (AreBegun (ls ++ c ∷ [])) (sym (append-nil ns)) (begun-letter ls ns c a h)
 begun-token ls ns kinds.Plus h a = absurd (cc)
@@ -102,7 +95,7 @@ fault-sound before [] end a h =
       letters = AreLetters-from_different (letters before) a.known a.different;
     })
 fault-sound before (t ∷ ts) end a h =
-    let k = fits-both (fits (letters before) (counts before) t.kind) (fault_from (before ++ t ∷ []) ts end) t.from h in
+    let k = fits-both (may_follow (letters before) (counts before) t.kind) (fault_from (before ++ t ∷ []) ts end) t.from h in
     let l : AreBegun (letters (before ++ t ∷ [])) (counts (before ++ t ∷ [])) =
     subst (λ ls. AreBegun ls (counts (before ++ t ∷ []))) (sym (flat-one (λ u. letter_of u.kind) before t))
     (subst (AreBegun (letters before ++ letter_of t.kind)) (sym (flat-one (λ u. count_of u.kind) before t)) (begun-token (letters before) (counts before) t.kind k.0 a)) in
@@ -123,18 +116,18 @@ generators-sound false ts end h = fault-sound [] ts end none-begun (bad-none (ge
 pub none-letters : AreLetters []
 none-letters = AreLetters-from_different [] none-begun.known none-begun.different
 
-fault-none : (o : Option Fault) (n : ℕ) → fault_refusal o n ≡ None → o ≡ None
+fault-none : (o : Option IdentityFault) (n : ℕ) → fault_refusal o n ≡ None → o ≡ None
 fault-none None n h = refl
 fault-none (Some x) n h = absurd (cc)
 
-not-many : (many : Bool) (o : Option Fault) (n : ℕ) → (if many then Some refusals.TooManyIdentities else fault_refusal o n) ≡ None → many ≡ false
+not-many : (many : Bool) (o : Option IdentityFault) (n : ℕ) → (if many then Some refusals.TooManyIdentities else fault_refusal o n) ≡ None → many ≡ false
 not-many true o n h = absurd (cc)
 not-many false o n h = refl
 
 few-more : (fs : List Poly) (f : Poly) → nat_le 32 (length fs) ≡ false → length (fs ++ f ∷ []) ≤ 32
 few-more fs f h = let l : length fs < 32 = grind (arith, nat_tests, h) in omega (arith, l, length-append fs (f ∷ []))
 
-refusal-none : (many : Bool) (o : Option Fault) (n : ℕ) → (if many then Some refusals.TooManyIdentities else fault_refusal o n) ≡ None → o ≡ None
+refusal-none : (many : Bool) (o : Option IdentityFault) (n : ℕ) → (if many then Some refusals.TooManyIdentities else fault_refusal o n) ≡ None → o ≡ None
 refusal-none true o n h = absurd (cc)
 refusal-none false o n h = fault-none o n h
 

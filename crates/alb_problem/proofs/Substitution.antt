@@ -9,9 +9,8 @@ use Rattle.gf_sums.proofs.Totals.{weigh-multiply}
 use Rattle.gf_sums.proofs.Alike.{Alike, equal, itself, turned, joined, append-alike, scale-alike, multiply-alike}
 use Rattle.alb_poly.specs.Poly.{Poly}
 use Rattle.alb_poly.specs.Consequence.{IsConsequence}
-use Rattle.alb_poly.specs.Algebra.{evaluate, evaluate_poly}
-use Rattle.alb_poly.specs.Textbook.{IsTextConsequence}
-use Rattle.alb_poly.specs.Identity.{Identity, AreHomogeneous, linearizations, polynomials}
+use Rattle.alb_poly.specs.Textbook.{evaluate, evaluate_poly, IsTextConsequence}
+use Rattle.alb_poly.specs.Instance.{Identity, AreHomogeneous, linearizations, polynomials}
 use Rattle.alb_poly.proofs.Multilinear.{each-append, each-map, each-flat}
 use Rattle.alb_poly.proofs.Parts.{weigh-zero}
 use Rattle.alb_poly.proofs.Evaluate.{IsIdealIn, text-in}

@@ -2,12 +2,11 @@
 use Rattle.std.proofs.Common.{ℕ, ◌%◌, ◌<◌, List, sum, sym, ◌∙◌, arith, inl, inr}
 use Rattle.std.proofs.lemmas.Bool.{cases_eq}
 use Rattle.std.proofs.Math.Nat.{mod-eq_of_lt}
-use Rattle.gf_field.specs.Primes.{IsPrime}
+use Rattle.gf_field.specs.Modular.{IsPrime}
 use Rattle.gf_sums.specs.Sums.{coefficient}
 use Rattle.alb_mono.specs.Tree.{same_tree}
 use Rattle.alb_poly.specs.Poly.{Poly}
-use Rattle.alb_poly.specs.Instance.{Form}
-use Rattle.alb_poly.specs.Identity.{Identity, AreHomogeneous, linearizations, IsWithin, AreSameForms}
+use Rattle.alb_poly.specs.Instance.{Form, Identity, AreHomogeneous, linearizations, IsWithin, AreSameForms}
 use Rattle.alb_poly.proofs.AtMost.{degree-at_most}
 pub use Rattle.alb_poly.proofs.AtMost.{IsWithin-terms}
 use Rattle.alb_problem.specs.Matches.{MatchesTextbook}

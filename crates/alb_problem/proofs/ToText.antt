@@ -8,16 +8,13 @@ use Rattle.gf_sums.specs.Sums.{Comb, weigh, scale, reindex}
 use Rattle.gf_sums.proofs.Totals.{total-equal, total-map, total-times, weigh-scale}
 use Rattle.gf_sums.proofs.Alike.{Alike, equal, itself, turned, joined, append-alike, scale-alike, reindex-alike, weigh-reindex, weigh-flat}
 use Rattle.alb_poly.specs.Poly.{Poly}
-use Rattle.alb_poly.specs.Context.{within}
-use Rattle.alb_poly.specs.Consequence.{Item, IsItem, item_value, AreItems, IsConsequence}
-use Rattle.alb_poly.specs.Instance.{instance, linearization}
+use Rattle.alb_poly.specs.Consequence.{within, Item, IsItem, item_value, AreItems, IsConsequence}
+use Rattle.alb_poly.specs.Instance.{instance, linearization, Identity, AreHomogeneous, linearizations, polynomials}
 use Rattle.alb_poly.proofs.Multilinear.{linearization-multilinear}
 use Rattle.alb_poly.proofs.Consequence.{value, alike_poly, poly_alike, flat-append}
-use Rattle.alb_poly.specs.Algebra.{unit}
+use Rattle.alb_poly.specs.Textbook.{unit, free_product, value_at, Instance, instance_value, IsTextConsequence}
 use Rattle.alb_problem.proofs.OneVariable.{vectors}
-use Rattle.alb_poly.specs.Textbook.{free_product, value_at, Instance, instance_value, IsTextConsequence}
 use Rattle.alb_problem.proofs.BlockPolarize.{signed_choices, linearization-polarized}
-use Rattle.alb_poly.specs.Identity.{Identity, AreHomogeneous, linearizations, polynomials}
 use Rattle.alb_problem.proofs.FromText.{identity_at, form_at-linearizations, get-polynomials, homogeneous_at, value-units}
 use Rattle.alb_poly.proofs.Ideals.{weigh-instance}
 

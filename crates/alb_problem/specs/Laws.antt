@@ -1,11 +1,10 @@
 -- The laws that tie consequences to the textbook's definitions.
 use Rattle.std.specs.Prelude.{ℕ, ◌<◌, sum, List}
-use Rattle.gf_field.specs.Primes.{IsPrime}
+use Rattle.gf_field.specs.Modular.{IsPrime}
 use Rattle.gf_sums.specs.Sums.{Comb}
 use Rattle.alb_mono.specs.Listing.{Each}
 use Rattle.alb_poly.specs.Poly.{Poly}
-use Rattle.alb_poly.specs.Instance.{Form}
-use Rattle.alb_poly.specs.Identity.{Identity, AreHomogeneous, linearizations, polynomials, AreSameForms}
+use Rattle.alb_poly.specs.Instance.{Form, Identity, AreHomogeneous, linearizations, polynomials, AreSameForms}
 use Rattle.alb_poly.specs.Consequence.{IsConsequence}
 use Rattle.alb_poly.specs.Textbook.{IsTextConsequence}
 use Rattle.alb_problem.specs.Matches.{MatchesTextbook}

@@ -1,8 +1,7 @@
 -- When the consequences of forms are the textbook's.
 use Rattle.std.specs.Prelude.{◌↔◌, ℕ, List}
 use Rattle.alb_poly.specs.Poly.{Poly}
-use Rattle.alb_poly.specs.Instance.{Form}
-use Rattle.alb_poly.specs.Identity.{Identity, IsWithin, polynomials}
+use Rattle.alb_poly.specs.Instance.{Form, Identity, IsWithin, polynomials}
 use Rattle.alb_poly.specs.Consequence.{IsConsequence}
 use Rattle.alb_poly.specs.Textbook.{IsTextConsequence}
 

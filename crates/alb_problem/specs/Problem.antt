@@ -1,11 +1,11 @@
 -- Accepted problems.
 use Rattle.std.specs.Prelude.{◌≡◌, ◌<◌, ◌≤◌, List, length, sum, map, All}
-use Rattle.gf_field.specs.Primes.{IsInTable}
+use Rattle.gf_field.specs.Modular.{IsInTable}
 use Rattle.alb_mono.specs.Listing.{Each}
-use Rattle.alb_poly.specs.Identity.{Identity}
-use Rattle.alb_poly.specs.Rules.{forms}
+use Rattle.alb_poly.specs.Instance.{Identity}
+use Rattle.alb_poly.specs.Consequence.{forms}
 use Rattle.alb_linear.specs.Identity.{IsIdentity, IsLinearized}
-use Rattle.alb_problem.specs.Builder.{Builder, linear_form, with_degrees, IsKept}
+use Rattle.alb_problem.specs.Builder.{Builder, linear_form, with_degrees, IsKeptIdentity}
 use Rattle.alb_problem.specs.declared.problem.Problem.{Problem}
 
 -- what a problem says, as a builder
@@ -29,6 +29,6 @@ pub record IsAccepted (q : Problem) : Type 0 where
   pub named : length q.letters ≡ length q.rules.target
   pub few : length q.identities.items ≤ 32
   pub identities : Each IsIdentity q.identities.items
-  pub kept : Each (λ f. IsKept q.rules.field f.poly) q.identities.items
+  pub kept : Each (λ f. IsKeptIdentity q.rules.field f.poly) q.identities.items
   pub stand : forms q.rules ≡ map (λ f. linear_form q.rules.field f.poly) q.identities.items
   pub linearized : Each (IsLinearized q.rules.field) (forms q.rules)

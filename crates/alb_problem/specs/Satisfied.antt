@@ -1,7 +1,7 @@
 -- Algebras with a numbered basis, and the identities that they satisfy.
 use Rattle.std.specs.Prelude.{ℕ, [], nat_eq}
 use Rattle.gf_sums.specs.Sums.{Comb, AreSame}
-use Rattle.alb_poly.specs.Algebra.{evaluate_poly}
+use Rattle.alb_poly.specs.Textbook.{evaluate_poly}
 use Rattle.alb_poly.specs.Poly.{Poly}
 
 -- equal vectors

@@ -1,11 +1,9 @@
 ghost use Rattle.std.specs.Prelude.{◌≡◌, ◌+◌, ◌≤◌, ◌++◌, [], ◌∷◌, None, IfOk, IfErr, OnOk, OnErr, MatchResult, length};
 ghost use Rattle.alb_poly.specs.Poly.{AreResidues};
-ghost use Rattle.alb_problem.specs.Generators.{letters, counts};
-ghost use Rattle.alb_poly.specs.Rules.{form, forms};
-ghost use Rattle.alb_poly.specs.Identity.{AreHomogeneous, AreSameForms, linearizations};
+ghost use Rattle.alb_problem.specs.Builder.{letters, counts, IsKeptIdentity, linear_form, field_refusal, generators_refusal, identity_refusal, finish_refusal, fault_refusal, of_identity, StatementAnswers, AnswersOrNoMemory, TellsRefusal};
+ghost use Rattle.alb_poly.specs.Consequence.{form, forms};
+ghost use Rattle.alb_poly.specs.Instance.{AreHomogeneous, AreSameForms, linearizations};
 ghost use Rattle.alb_linear.specs.Identity.{identity_fault, linear_count, IsIdentity};
-ghost use Rattle.alb_problem.specs.Builder.{IsKept, linear_form};
-ghost use Rattle.alb_problem.specs.Refusals.{field_refusal, generators_refusal, identity_refusal, finish_refusal, fault_refusal, of_identity, Answers, AnswersOrNoMemory, Tells};
 ghost use Rattle.alb_problem.specs.Problem.{problem, identities_of, IsAccepted};
 ghost use Rattle.alb_problem.specs.Matches.{MatchesTextbook};
 
@@ -37,7 +35,7 @@ pub struct ProblemBuilder {
 impl Model for ProblemBuilder {
     ghost use Rattle.std.specs.Prelude.{◌≡◌, map};
     ghost use Rattle.alb_mono.specs.Listing.{Each};
-    ghost use Rattle.alb_poly.specs.Rules.{form};
+    ghost use Rattle.alb_poly.specs.Consequence.{form};
     ghost use Rattle.alb_linear.specs.Identity.{IsIdentity};
     ghost use Rattle.alb_problem.specs.Builder.{Builder, builder_code, linear_form, IsSound};
 
@@ -99,7 +97,7 @@ impl ProblemBuilder {
     /// `FieldAfterIdentity` where there is an identity; else `NotInTable` where the number is not in the table of fields.
     /// The builder is then unchanged.
     pub fn set_field(&mut self, p: u64) -> Result<(), ProblemError>
-        ensures exact { Answers result (field_refusal self.old p) }
+        ensures exact { StatementAnswers result (field_refusal self.old p) }
         ensures named { OnOk result (self.new ≡ record { field = p; letters = self.old.letters; counts = self.old.counts; identities = self.old.identities }) }
         ensures unchanged { OnErr result (self.new ≡ self.old) }
     {
@@ -122,7 +120,7 @@ impl ProblemBuilder {
     /// or no letter in its turn, with which the total passes 12, or whose letter stood before, or at the end where there
     /// is no pair or the last letter is missing. The builder is then unchanged.
     pub fn set_generators(&mut self, tokens: &[Token], end: u32) -> Result<(), ProblemError>
-        ensures exact { Answers result (generators_refusal self.old tokens.now end) }
+        ensures exact { StatementAnswers result (generators_refusal self.old tokens.now end) }
         ensures named { OnOk result (self.new ≡ record { field = self.old.field; letters = letters tokens.now; counts = counts tokens.now; identities = self.old.identities }) }
         ensures unchanged { OnErr result (self.new ≡ self.old) }
     {
@@ -168,7 +166,7 @@ impl ProblemBuilder {
     /// `NoGenerators` where none are named; else `FieldTooSmall` where the number of elements of the field is not above
     /// the total degree. The error has the builder, unchanged.
     pub fn finish(self) -> Result<Problem, FinishError>
-        ensures exact { MatchResult result (λ _. finish_refusal self ≡ None) (λ e. Tells e.error (finish_refusal self)) }
+        ensures exact { MatchResult result (λ _. finish_refusal self ≡ None) (λ e. TellsRefusal e.error (finish_refusal self)) }
         ensures whole { IfOk result (λ q. problem q ≡ self) }
         ensures accepted { IfOk result (λ q. IsAccepted q) }
         ensures homogeneous { IfOk result (λ q. AreHomogeneous (identities_of q)) }
@@ -240,7 +238,7 @@ fn read_identity(
     requires residues { AreResidues field.now poly }
     requires few { length poly ≤ 65536 }
     ensures exact { AnswersOrNoMemory result (fault_refusal (identity_fault poly) (linear_count poly)) }
-    ensures read { IfOk result (λ q. IsIdentity q.0 × (q.0.poly ≡ poly) × (form q.1 ≡ linear_form field.now poly) × IsKept field.now poly) }
+    ensures read { IfOk result (λ q. IsIdentity q.0 × (q.0.poly ≡ poly) × (form q.1 ≡ linear_form field.now poly) × IsKeptIdentity field.now poly) }
 {
     let identity = match Identity::of(poly) {
         Ok(identity) => identity,

@@ -1,6 +1,6 @@
 ghost use Rattle.std.specs.Prelude.{◌≡◌, ◌+◌, ◌<◌, ◌≤◌, ◌++◌, ◌&&◌, ◌==◌, nat_lt, nat_le, not, None, Some, IfOk, IfSome, IsTrue, MatchResult, if◌then◌else◌, sum, length};
 ghost use Rattle.std.specs.List.{list_any};
-ghost use Rattle.alb_problem.specs.Generators.{fits, are_whole, letter_of, count_of, letters, counts, generators_fault, AreBegun, AreGenerators};
+ghost use Rattle.alb_problem.specs.Builder.{may_follow, are_whole, letter_of, count_of, letters, counts, generators_fault, AreBegun, AreGenerators};
 
 use alb_lex::{Token, TokenKind};
 use alb_mono::{Letters, Multi};
@@ -42,7 +42,7 @@ impl Pairs {
     // Whether a token may stand behind these.
     fn is_next(&self, kind: TokenKind) -> bool
         requires { AreBegun self.now.letters.items self.now.counts.items }
-        ensures { result ≡ fits self.now.letters.items self.now.counts.items kind }
+        ensures { result ≡ may_follow self.now.letters.items self.now.counts.items kind }
     {
         match kind {
             TokenKind::Number(n) => {
@@ -60,7 +60,7 @@ impl Pairs {
     // Adds a token that may stand behind these.
     fn push(&mut self, kind: TokenKind)
         requires begun { AreBegun self.old.letters.items self.old.counts.items }
-        requires next { IsTrue (fits self.old.letters.items self.old.counts.items kind) }
+        requires next { IsTrue (may_follow self.old.letters.items self.old.counts.items kind) }
         ensures letters { self.new.letters.items ≡ self.old.letters.items ++ letter_of kind }
         ensures counts { self.new.counts.items ≡ self.old.counts.items ++ count_of kind }
         ensures begun { AreBegun self.new.letters.items self.new.counts.items }

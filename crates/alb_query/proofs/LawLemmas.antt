@@ -6,12 +6,11 @@ use Rattle.alb_mono.specs.Listing.{Each}
 use Rattle.alb_mono.specs.Tree.{Tree, are_below}
 use Rattle.alb_poly.specs.Consequence.{IsConsequence, AreMultilinear}
 use Rattle.alb_poly.specs.Instance.{Form}
-use Rattle.alb_poly.specs.Normal.{normal}
-use Rattle.alb_poly.specs.Poly.{Poly, IsSamePoly, greatest_degree}
+use Rattle.alb_poly.specs.Poly.{normal, Poly, IsSamePoly, greatest_degree}
 use Rattle.alb_poly.proofs.NormalLemmas.{normal-each, normal-same, normal-residues, same-normal}
 use Rattle.gf_field.proofs.Mod.{back}
 use Rattle.alb_table.specs.Laws.{Decides}
-use Rattle.alb_table.specs.Right.{AreHigh, IsWithin, IsBasisTo, poly_value}
+use Rattle.alb_table.specs.Right.{AreHigh, IsWithinDegree, IsBasisTo, poly_value}
 use Rattle.alb_table.specs.RightTable.{IsRightTable, basis_monos, mono_entry}
 use Rattle.alb_table.specs.Table.{Table, IsTable}
 use Rattle.alb_table.proofs.GeneratorLemmas.{above_one}
@@ -67,10 +66,10 @@ module _ (fs : List Form) (t : Table) (g : Poly) (multi : AreMultilinear fs) (hi
   by-degree m = elim (cases_lt t.degree (greatest_degree g)) [
     | inl l ↦ (NotBuilt (greatest_degree g), not-built t.p fs t.target t.degree g m (greatest_degree g) refl l, λ known. tt)
     | inr l ↦ (
-        let w : Each (λ s. IsWithin t.target t.degree s.1) g = all-within t.target t.degree g m l in
+        let w : Each (λ s. IsWithinDegree t.target t.degree s.1) g = all-within t.target t.degree g m l in
         let over = right-table t.p pos fs multi high t.target t.degree (basis_monos t.parts) (mono_entry t.parts) right.right in
         by-value m l (monomial-values-decide t.p fs t.target t.degree (basis_monos t.parts) (mono_entry t.parts) g pos multi high right.right w)
-        (poly-value-basis t.p pos fs (IsWithin t.target t.degree) (IsBasisTo t.p fs t.target t.degree) (mono_entry t.parts) over g w) (normal t.p value) refl)
+        (poly-value-basis t.p pos fs (IsWithinDegree t.target t.degree) (IsBasisTo t.p fs t.target t.degree) (mono_entry t.parts) over g w) (normal t.p value) refl)
   ]
 
   answered : Answered

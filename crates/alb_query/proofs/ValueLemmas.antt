@@ -6,17 +6,15 @@ use Rattle.gf_sums.proofs.Alike.{turned}
 use Rattle.alb_mono.specs.Listing.{Each}
 use Rattle.alb_mono.specs.Tree.{Tree, are_below}
 use Rattle.alb_poly.specs.Instance.{Form}
-use Rattle.alb_poly.specs.Normal.{normal}
-use Rattle.alb_poly.specs.Poly.{Poly}
+use Rattle.alb_poly.specs.Poly.{normal, Poly}
 use Rattle.alb_poly.specs.Terms.{term, terms}
 use Rattle.alb_poly.specs.declared.term.Term.{Term}
 use Rattle.alb_poly.proofs.NormalLemmas.{normal-each, normal-alike, normal-residues, normal-descending}
 use Rattle.alb_rows.specs.Row.{Cells, comb, ColumnsBelow, IsRowOver}
 use Rattle.alb_table.specs.Laws.{Decides}
-use Rattle.alb_table.specs.Leading.{IsNormal}
-use Rattle.alb_table.specs.PartView.{elems, mono_at}
-use Rattle.alb_table.specs.RightFor.{RulesView, IsRightFor}
-use Rattle.alb_table.specs.Table.{Table}
+use Rattle.alb_table.specs.Right.{IsNormal}
+use Rattle.alb_table.specs.Table.{elems, mono_at, Table}
+use Rattle.alb_table.specs.RightTable.{RulesView, IsRightFor}
 use Rattle.alb_table.proofs.Congruent.{congruent-alike, congruent-joined}
 use Rattle.alb_table.proofs.TableValues.{mono-known}
 use Rattle.alb_linear.proofs.LinearLemmas.{all_from_each}

@@ -5,7 +5,7 @@ use Rattle.alb_mono.specs.Tree.{Tree, are_below, type_of, type_le}
 use Rattle.alb_poly.specs.Poly.{Poly, AreResidues, IsDescending, greatest_degree}
 use Rattle.alb_poly.specs.Instance.{Form}
 use Rattle.alb_poly.specs.Consequence.{IsConsequence}
-use Rattle.alb_table.specs.Leading.{IsNormal, IsCongruent}
+use Rattle.alb_table.specs.Right.{IsNormal, IsCongruent}
 
 pub data Answer : Type 0 where
   Zero : Answer
@@ -14,13 +14,13 @@ pub data Answer : Type 0 where
   OutOfType : Tree → Answer
 
 -- the monomial's type is at most the target
-abbrev pub fits : List ℕ → Tree → Bool
-fits target m = are_below (length target) m && type_le (type_of (length target) m) target
+abbrev pub fits_target : List ℕ → Tree → Bool
+fits_target target m = are_below (length target) m && type_le (type_of (length target) m) target
 
 -- the first monomial whose type is not at most the target
 abbrev pub misfit : List ℕ → Poly → Option Tree
 misfit target [] = None
-misfit target (t ∷ g) = if fits target t.1 then misfit target g else Some t.1
+misfit target (t ∷ g) = if fits_target target t.1 then misfit target g else Some t.1
 
 -- `f` is the normal form of `g`: the combination of normal monomials that differs from it by a consequence
 pub record IsNormalForm (p : ℕ) (fs : List Form) (g f : Poly) : Type 0 where

@@ -2,7 +2,7 @@
 use Rattle.std.specs.Prelude.{length, All, IsTrue}
 use Rattle.alb_mono.specs.Tree.{are_below}
 use Rattle.alb_poly.specs.Poly.{Poly}
-use Rattle.alb_table.specs.RightFor.{RulesView, IsRightFor}
+use Rattle.alb_table.specs.RightTable.{RulesView, IsRightFor}
 use Rattle.alb_table.specs.Table.{Table}
 use Rattle.alb_query.specs.Answer.{Answer, IsAnswer, IsOver}
 

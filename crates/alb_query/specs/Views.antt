@@ -1,5 +1,5 @@
 -- What contracts see of replies, and what rules have to do with a table.
-use Rattle.alb_mono.specs.Mono.{tree}
+use Rattle.alb_mono.specs.Tree.{tree}
 use Rattle.alb_query.specs.Answer.{Answer, Zero, NotZero, NotBuilt, OutOfType}
 use Rattle.alb_query.specs.declared.reply.Reply.{Reply}
 use Rattle.alb_query.specs.declared.reply.Reply.TheVariants as reply

@@ -1,17 +1,15 @@
 ghost use Rattle.std.specs.Prelude.{◌≡◌, ◌<◌, ◌≤◌, ◌++◌, ℕ, Some, None, All, IfOk, IsTrue, MatchOption, length, map};
 ghost use Rattle.gf_sums.specs.Sums.{reindex};
 ghost use Rattle.alb_mono.specs.Listing.{Each};
-ghost use Rattle.alb_mono.specs.Mono.{tree};
-ghost use Rattle.alb_mono.specs.Tree.{degree, are_below};
-ghost use Rattle.alb_poly.specs.Normal.{normal};
-ghost use Rattle.alb_poly.specs.Poly.{AreResidues};
-ghost use Rattle.alb_poly.specs.Rules.{forms};
+ghost use Rattle.alb_mono.specs.Tree.{tree, degree, are_below};
+ghost use Rattle.alb_poly.specs.Poly.{normal, AreResidues};
+ghost use Rattle.alb_poly.specs.Consequence.{forms};
 ghost use Rattle.alb_poly.specs.Terms.{terms};
 ghost use Rattle.alb_rows.specs.Row.{comb};
-ghost use Rattle.alb_table.specs.PartView.{elems, mono_at};
-ghost use Rattle.alb_table.specs.RightFor.{rules_view, IsRightFor};
-ghost use Rattle.alb_table.specs.Value.{IsVector};
-ghost use Rattle.alb_query.specs.Answer.{fits, misfit, IsAnswer, IsOver};
+ghost use Rattle.alb_table.specs.Table.{elems, mono_at};
+ghost use Rattle.alb_table.specs.RightTable.{rules_view, IsRightFor};
+ghost use Rattle.alb_table.specs.Value.{IsBasisRow};
+ghost use Rattle.alb_query.specs.Answer.{fits_target, misfit, IsAnswer, IsOver};
 ghost use Rattle.alb_query.specs.Views.{answer_of};
 
 use crate::Reply;
@@ -26,7 +24,7 @@ fn fits(target: &Multi, m: &Mono) -> bool
     requires few { length target.now ≤ 26 }
     requires small { degree (tree m.now) ≤ 64 }
     requires known { IsTrue (are_below (length target.now) (tree m.now)) }
-    ensures { result ≡ fits target.now (tree m.now) }
+    ensures { result ≡ fits_target target.now (tree m.now) }
 {
     m.type_of(target.counts().len() as u8).le(target)
 }
@@ -53,7 +51,7 @@ fn row_terms(
     row: &Row,
 ) -> Result<Vec<Term>, NoMemory>
     requires right { IsRightFor (rules_view rules.now) tables.now }
-    requires row { IsVector tables.now.p (length (elems tables.now.parts)) row.now }
+    requires row { IsBasisRow tables.now.p (length (elems tables.now.parts)) row.now }
     ensures value { IfOk result (λ v. terms v.items ≡ reindex (mono_at tables.now.parts) (comb row.now)) }
 {
     let mut list = Vec::new(alloc);

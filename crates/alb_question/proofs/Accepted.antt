@@ -3,10 +3,9 @@ use Rattle.std.proofs.Common.{◌≡◌, ℕ, ◌<◌, List, [], ◌∷◌, ◌+
 use Rattle.gf_field.proofs.Table.{IsPrime-from_table}
 use Rattle.alb_poly.specs.Poly.{Poly}
 use Rattle.alb_poly.specs.Instance as instances
-use Rattle.alb_problem.specs.Builder.{Builder}
-use Rattle.alb_problem.specs.Sound.{forms_of}
+use Rattle.alb_problem.specs.Builder.{Builder, forms_of}
 use Rattle.alb_syntax.proofs.Kept.{table-small}
-use Rattle.alb_table.specs.RightFor.{RulesView, IsRightFor}
+use Rattle.alb_table.specs.RightTable.{RulesView, IsRightFor}
 use Rattle.alb_table.specs.Table.{Table, IsTarget}
 use Rattle.alb_table.proofs.FirstLemmas.{few_generators}
 use Rattle.alb_check.specs.Verdict as tables
@@ -17,9 +16,8 @@ use Rattle.alb_evidence.specs.Accepted.{ReadsBack, JudgeAccepts, IsAcceptedBack,
 use Rattle.alb_evidence.specs.Texts.{lines_text, table_text}
 use Rattle.alb_evidence.proofs.TextLengths as evidence
 use Rattle.alb_judge.specs.Verdict.{Verdict, AcceptedZero, AcceptedNotZero, IsVerdict, of_derivation}
-use Rattle.alb_question.specs.Shot.{rules_of}
+use Rattle.alb_question.specs.Question.{rules_of, Finding, IsFinding, shown_text, answer_text, proof_text, finding_text}
 use Rattle.alb_question.specs.Question as asking
-use Rattle.alb_question.specs.Question.{Finding, IsFinding, shown_text, answer_text, proof_text, finding_text}
 use Rattle.alb_question.specs.Laws.{IsProblem, IsBlockFor, verdict_of, ProofsAreAccepted}
 use Rattle.alb_question.proofs.ProblemRules.{problem-target}
 
@@ -54,7 +52,7 @@ module _ (b : Builder) (h : IsProblem b) (g : Poly) where
         lines = a.back.lines;
         cut = a.back.cut;
         no_end = a.back.no_end;
-        verdict = subst (λ (r : Result block.Evidence block.Fault). IsVerdict b.field b.counts (forms_of b) g r (verdict_on e)) (sym a.back.says)
+        verdict = subst (λ (r : Result block.Evidence block.BlockFault). IsVerdict b.field b.counts (forms_of b) g r (verdict_on e)) (sym a.back.says)
             (judge-verdict b.field b.counts (forms_of b) g e a.accepted);
       }
 

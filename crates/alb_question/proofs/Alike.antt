@@ -1,11 +1,10 @@
 -- The building of a problem ends at one degree and in one way, and right tables of one degree give answers that print the same.
 use Rattle.std.proofs.Common.{◌≡◌, ℕ, ◌<◌, List, Some, refl, sym, ap, ap₂, ◌∙◌, subst}
 use Rattle.alb_poly.specs.Poly.{Poly}
-use Rattle.alb_problem.specs.Builder.{Builder}
-use Rattle.alb_problem.specs.Sound.{forms_of}
+use Rattle.alb_problem.specs.Builder.{Builder, forms_of}
 use Rattle.alb_problem.proofs.SoundLemmas.{table-positive}
 use Rattle.alb_table.specs.End.{End}
-use Rattle.alb_table.specs.RightFor.{IsRightFor}
+use Rattle.alb_table.specs.RightTable.{IsRightFor}
 use Rattle.alb_table.specs.Table.{Table}
 use Rattle.alb_query.specs.Answer.{Answer, IsAnswer}
 use Rattle.alb_answer.specs.Answers.{answer_line}
@@ -13,9 +12,8 @@ use Rattle.alb_unique.specs.Laws.{AreRightFor}
 use Rattle.alb_unique.proofs.SamePrints.{print-alike}
 use Rattle.alb_unique.proofs.UniqueAnswer.{answer-unique}
 use Rattle.alb_unique.proofs.UniqueEnd.{end-unique}
-use Rattle.alb_question.specs.Shot.{Shot, Pair, pair_of, rules_of, IsBuilt}
+use Rattle.alb_question.specs.Question.{Shot, Pair, pair_of, rules_of, IsBuilt, Question, Finding, IsFinding, answer_text}
 use Rattle.alb_question.specs.Question as asking
-use Rattle.alb_question.specs.Question.{Question, Finding, IsFinding, answer_text}
 use Rattle.alb_question.specs.Laws.{IsProblem, BuiltIsUnique, AnswersPrintAlike}
 use Rattle.alb_question.proofs.ProblemRules.{problem-multilinear, problem-high}
 

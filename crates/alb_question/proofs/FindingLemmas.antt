@@ -7,33 +7,29 @@ use Rattle.alb_mono.specs.Tree.{Tree, type_le}
 use Rattle.alb_mono.proofs.Both.{and_left, and_right}
 use Rattle.alb_mono.proofs.Leaves.{below_from_test}
 use Rattle.alb_poly.specs.Poly.{Poly, greatest_degree}
-use Rattle.alb_poly.specs.Identity.{IsAtMost}
+use Rattle.alb_poly.specs.Instance.{IsAtMost}
 use Rattle.alb_poly.specs.Consequence.{IsConsequence}
 use Rattle.alb_poly.specs.Textbook.{IsTextConsequence}
-use Rattle.alb_problem.specs.Builder.{Builder, with_degrees}
-use Rattle.alb_problem.specs.Refusals.{finish_refusal}
+use Rattle.alb_problem.specs.Builder.{Builder, with_degrees, finish_refusal, forms_of, IsSoundProblem}
 use Rattle.alb_poly.proofs.AtMost.{IsWithin-terms}
 use Rattle.alb_problem.proofs.TextbookLemmas.{MatchesTextbook-linearizations}
 use Rattle.alb_table.specs.Table.{Table}
-use Rattle.alb_table.specs.Leading.{difference}
-use Rattle.alb_query.specs.Answer.{Answer, Zero, NotZero, NotBuilt, OutOfType, fits, misfit, IsAnswer, AnswersUnless, AnswersFitting, AnswersWithin}
+use Rattle.alb_table.specs.Right.{difference}
+use Rattle.alb_query.specs.Answer.{Answer, Zero, NotZero, NotBuilt, OutOfType, fits_target, misfit, IsAnswer, AnswersUnless, AnswersFitting, AnswersWithin}
 use Rattle.alb_check.specs.Raw.{Raw, IsRaw}
-use Rattle.alb_check.specs.TableAlgebra.{Satisfies}
+use Rattle.alb_check.specs.TableAlgebra.{TableSatisfies}
 use Rattle.alb_check.specs.Verdict as tables
 use Rattle.alb_check.proofs.TableLemmas.{shaped, nilpotent, le_sum}
 use Rattle.alb_check.proofs.RefuteLemmas.{all_satisfied}
 use Rattle.alb_table.proofs.TableLemmas.{each-unmap}
 use Rattle.alb_trace.specs.Proof.{Shown, ByLines, ByTable, ByNothing, Shows}
-use Rattle.alb_question.specs.Meaning.{IsTrueAnswer, IsCounterexample, IsTrueProof, IsTrueOf}
+use Rattle.alb_question.specs.Question.{IsTrueAnswer, IsCounterexample, IsTrueProof, IsTrueOf, Question, Finding, IsFinding, rules_of}
 use Rattle.alb_question.specs.Question as asking
-use Rattle.alb_question.specs.Question.{Question, Finding, IsFinding}
 use Rattle.alb_question.specs.Laws.{FindingsAreTrue}
-use Rattle.alb_table.specs.RightFor.{IsRightFor}
-use Rattle.alb_problem.specs.Sound.{forms_of, IsSoundProblem}
-use Rattle.alb_question.specs.Shot.{rules_of}
+use Rattle.alb_table.specs.RightTable.{IsRightFor}
 use Rattle.alb_problem.proofs.SoundLemmas.{text-consequence, table-positive, same-named, all-homogeneous, polynomials-named, accepted-large}
 
-fits-first : (b : Bool) (target : List ℕ) (m : Tree) (rest : Option Tree) → fits target m ≡ b → (if b then rest else Some m) ≡ None → (fits target m ≡ true) × (rest ≡ None)
+fits-first : (b : Bool) (target : List ℕ) (m : Tree) (rest : Option Tree) → fits_target target m ≡ b → (if b then rest else Some m) ≡ None → (fits_target target m ≡ true) × (rest ≡ None)
 fits-first true target m rest is k = (is, k)
 fits-first false target m rest is k = absurd (cc)
 
@@ -41,7 +37,7 @@ fits-first false target m rest is k = absurd (cc)
 fitting : (target : List ℕ) (g : Poly) → misfit target g ≡ None → Each (λ t. IsAtMost target t.1) g
 fitting target [] h = tt
 fitting target (t ∷ g) h =
-    let k = fits-first (fits target t.1) target t.1 (misfit target g) refl h in
+    let k = fits-first (fits_target target t.1) target t.1 (misfit target g) refl h in
     (record { below = below_from_test (length target) t.1 (and_left _ _ k.0); counts = and_right _ _ k.0 }, fitting target g k.1)
 
 -- within the target of an accepted problem the textbook's consequences are those of the linearizations
@@ -78,7 +74,7 @@ answer-meant b t g a h accepted table is =
 -- ---- what is shown
 
 -- a table with the verdict that it refutes is a counterexample
-table-counterexample : (b : Builder) (g : Poly) (r : Raw) → IsSoundProblem b → finish_refusal b ≡ None → IsRaw b.field (length b.counts) r → tables.IsVerdict b.field b.counts (forms_of b) r g tables.Refuted
+table-counterexample : (b : Builder) (g : Poly) (r : Raw) → IsSoundProblem b → finish_refusal b ≡ None → IsRaw b.field (length b.counts) r → tables.IsTableVerdict b.field b.counts (forms_of b) r g tables.Refuted
     → IsCounterexample b.field b.identities g r
 table-counterexample b g r h accepted raw is =
     let right = shaped b.counts b.field r is.0.shape in
@@ -86,7 +82,7 @@ table-counterexample b g r h accepted raw is =
     let below : sum r.top < b.field = omega (arith, accepted-large b accepted, le_sum r.top b.counts raw.top within) in
     record {
       nilpotent = nilpotent b.field b.counts r raw right;
-      satisfies = each-unmap (λ i. Satisfies b.field r i.terms) with_degrees b.identities
+      satisfies = each-unmap (λ i. TableSatisfies b.field r i.terms) with_degrees b.identities
           (all_satisfied b.field b.counts r raw right (IsPrime-from_table b.field h.field) below (forms_of b) (map with_degrees b.identities) is.0.zero (all-homogeneous b h) (same-named b.field b.identities));
       nonzero = is.1;
     }
@@ -96,8 +92,8 @@ pub shown-meant : (b : Builder) (t : Table) (g : Poly) (a : Answer) (s : Shown) 
 shown-meant b t g Zero (ByLines ls) h accepted table e = tt
 shown-meant b t g (NotZero f) (ByTable r) h accepted table e =
     let raw : IsRaw b.field (length b.counts) r = subst (λ p. IsRaw p (length b.counts) r) table.field (subst (λ target. IsRaw t.p (length target) r) table.target e.over) in
-    let is : tables.IsVerdict b.field b.counts (forms_of b) r g tables.Refuted =
-    subst (λ p. tables.IsVerdict p b.counts (forms_of b) r g tables.Refuted) table.field (subst (λ target. tables.IsVerdict t.p target (forms_of b) r g tables.Refuted) table.target e.refutes) in
+    let is : tables.IsTableVerdict b.field b.counts (forms_of b) r g tables.Refuted =
+    subst (λ p. tables.IsTableVerdict p b.counts (forms_of b) r g tables.Refuted) table.field (subst (λ target. tables.IsTableVerdict t.p target (forms_of b) r g tables.Refuted) table.target e.refutes) in
     subst (λ p. IsCounterexample p b.identities g r) (sym table.field) (table-counterexample b g r h accepted raw is)
 shown-meant b t g (NotBuilt n) ByNothing h accepted table e = tt
 shown-meant b t g (OutOfType m) ByNothing h accepted table e = tt

@@ -3,21 +3,17 @@ use Rattle.std.proofs.Common.{◌≡◌, ℕ, ◌+◌, ◌<◌, ◌^◌, Bool, t
 use Rattle.std.specs.Prelude.{if◌then◌else◌, nat_le, ◌==◌}
 use Rattle.std.proofs.lemmas.Bool.Decides.{nat_tests}
 use Rattle.alb_poly.specs.Instance as instances
-use Rattle.alb_poly.specs.Rules.{forms}
-use Rattle.alb_poly.specs.Consequence.{AreMultilinear}
+use Rattle.alb_poly.specs.Consequence.{forms, AreMultilinear}
 use Rattle.alb_poly.proofs.Multilinear.{sum_cons}
-use Rattle.alb_problem.specs.Builder.{Builder}
+use Rattle.alb_problem.specs.Builder.{Builder, finish_refusal, forms_of, IsSoundProblem}
 use Rattle.alb_problem.specs.Problem.{problem, IsAccepted}
-use Rattle.alb_problem.specs.Refusals as refusals
-use Rattle.alb_problem.specs.Refusals.{finish_refusal}
-use Rattle.alb_problem.specs.Sound.{forms_of, IsSoundProblem}
+use Rattle.alb_problem.specs.Builder as refusals
 use Rattle.alb_problem.proofs.SoundLemmas.{problem-forms, forms-multilinear, forms-rules}
 use Rattle.alb_table.specs.Right.{AreHigh}
-use Rattle.alb_table.specs.RightFor.{RulesView, rules_view, AreRules}
+use Rattle.alb_table.specs.RightTable.{RulesView, rules_view, AreRules}
 use Rattle.alb_table.specs.Table.{IsTarget}
 use Rattle.alb_table.proofs.AcceptedRules.{accepted-rules}
-use Rattle.alb_question.specs.Question.{Question, Finding, IsFinding}
-use Rattle.alb_question.specs.Shot.{Shot, rules_of, IsBuilt}
+use Rattle.alb_question.specs.Question.{Question, Finding, IsFinding, Shot, rules_of, IsBuilt}
 use Rattle.alb_question.specs.Views.{shot_of, IsTopic}
 use Rattle.alb_question.specs.declared.topic.Topic.{Topic}
 

@@ -1,13 +1,12 @@
 -- Each accepted problem has a table at which its building ends, and for each question something is found by it.
 use Rattle.std.proofs.Common.{◌≡◌, ℕ, ◌<◌, ◌^◌, length, None, Some, refl}
-use Rattle.alb_problem.specs.Builder.{Builder}
-use Rattle.alb_problem.specs.Sound.{forms_of}
+use Rattle.alb_problem.specs.Builder.{Builder, forms_of}
 use Rattle.alb_problem.proofs.SoundLemmas.{problem-few}
 use Rattle.alb_build.specs.Laws.{HasEnd}
 use Rattle.alb_build.proofs.EndLemmas.{each-ends}
 use Rattle.alb_query.proofs.LawLemmas.{each-is-answered}
 use Rattle.alb_trace.proofs.Shown.{each-is-shown}
-use Rattle.alb_question.specs.Shot.{Shot, rules_of, IsBuilt}
+use Rattle.alb_question.specs.Question.{Shot, rules_of, IsBuilt}
 use Rattle.alb_question.specs.Question as asking
 use Rattle.alb_question.specs.Laws.{EachIsBuilt, EachIsFound}
 use Rattle.alb_question.proofs.ProblemRules.{problem-target, problem-multilinear, problem-high}

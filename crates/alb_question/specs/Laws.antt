@@ -1,19 +1,15 @@
 -- Laws that functions of `laws` state.
 use Rattle.std.specs.Prelude.{◌≡◌, ℕ, true, List, [], ◌∷◌, ◌++◌, Option, None, Some, codes}
-use Rattle.alb_io.specs.Lines.{lines_of}
+use Rattle.alb_io.specs.Reader.{lines_of}
 use Rattle.alb_poly.specs.Poly.{Poly}
-use Rattle.alb_problem.specs.Builder.{Builder}
-use Rattle.alb_problem.specs.Refusals.{finish_refusal}
-use Rattle.alb_problem.specs.Sound.{forms_of, IsSoundProblem}
-use Rattle.alb_table.specs.RightFor.{IsRightFor}
+use Rattle.alb_problem.specs.Builder.{Builder, finish_refusal, forms_of, IsSoundProblem}
+use Rattle.alb_table.specs.RightTable.{IsRightFor}
 use Rattle.alb_table.specs.Table.{Table}
 use Rattle.alb_query.specs.Answer.{Zero, NotZero}
 use Rattle.alb_evidence.specs.Block.{evidence_of}
 use Rattle.alb_evidence.specs.Reads.{HasNoEnd}
 use Rattle.alb_judge.specs.Verdict.{Verdict, AcceptedZero, AcceptedNotZero, IsVerdict}
-use Rattle.alb_question.specs.Shot.{Shot, pair_of, rules_of, IsBuilt}
-use Rattle.alb_question.specs.Question.{Question, Prove, Finding, Proved, IsFinding, answer_text, proof_text}
-use Rattle.alb_question.specs.Meaning.{IsTrueOf}
+use Rattle.alb_question.specs.Question.{Shot, pair_of, rules_of, IsBuilt, Question, Prove, Finding, Proved, IsFinding, answer_text, proof_text, IsTrueOf}
 
 -- an accepted problem
 pub record IsProblem (b : Builder) : Type 0 where

@@ -3,12 +3,12 @@ use Rattle.std.specs.Prelude.{ℕ, List, length, Some, All, IsTrue}
 use Rattle.alb_mono.specs.Tree.{are_below}
 use Rattle.alb_poly.specs.Poly.{Poly, AreResidues}
 use Rattle.alb_problem.specs.Problem.{IsAccepted}
-use Rattle.alb_table.specs.RightFor.{rules_view}
+use Rattle.alb_table.specs.RightTable.{rules_view}
 use Rattle.alb_table.specs.End.{end_of}
 use Rattle.alb_query.specs.Answer.{IsOver}
 use Rattle.alb_query.specs.Views.{answer_of}
 use Rattle.alb_trace.specs.Proof.{shown, CanBePrinted}
-use Rattle.alb_question.specs.Shot.{Shot, IsBuilt}
+use Rattle.alb_question.specs.Question.{Shot, IsBuilt}
 use Rattle.alb_question.specs.Question as asking
 use Rattle.alb_question.specs.declared.question.Question.{Question}
 use Rattle.alb_question.specs.declared.question.Question.TheVariants as question

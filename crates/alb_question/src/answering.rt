@@ -1,6 +1,6 @@
 ghost use Rattle.std.specs.Prelude.{◌≡◌, IfOk, length};
 ghost use Rattle.alb_problem.specs.Problem.{IsAccepted};
-ghost use Rattle.alb_table.specs.RightFor.{rules_view, AreRules, IsRightFor};
+ghost use Rattle.alb_table.specs.RightTable.{rules_view, AreRules, IsRightFor};
 ghost use Rattle.alb_question.specs.Question.{IsFinding};
 ghost use Rattle.alb_question.specs.Views.{question_of, finding_of, IsQuestionOver, IsPrintable, IsTopic};
 

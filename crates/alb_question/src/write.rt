@@ -4,8 +4,7 @@ ghost use Rattle.alb_answer.specs.Answers.{answer_line};
 ghost use Rattle.alb_query.specs.Views.{answer_of};
 ghost use Rattle.alb_query.specs.Answer.{IsOver};
 ghost use Rattle.alb_trace.specs.Proof.{shown, CanBePrinted};
-ghost use Rattle.alb_question.specs.Shot.{built_text};
-ghost use Rattle.alb_question.specs.Question.{finding_text, shown_text};
+ghost use Rattle.alb_question.specs.Question.{built_text, finding_text, shown_text};
 ghost use Rattle.alb_question.specs.Views.{finding_of, IsPrintable, shot_of};
 
 use crate::finding::Finding;

@@ -7,14 +7,14 @@ use Rattle.std.specs.Prelude.{◌↔◌}
 use Rattle.std.specs.List.{All, Contains}
 use Rattle.std.proofs.lemmas.List.Elements.{All-push}
 use Rattle.alb_rows.proofs.RowLemmas.{entry_residue, entry_past}
-use Rattle.alb_rows.specs.Row.{Cells, ColumnsBelow, entry, IsRowOver, LeadsWith}
+use Rattle.alb_rows.specs.Row.{Cells, ColumnsBelow, entry, IsRowOver, RowLeadsWith}
 use Rattle.gf_field.specs.Modular.{IsSameMod}
 use Rattle.gf_sums.specs.Sums.{Comb}
 use Rattle.alb_rows.specs.Span.{combination, Same, InSpan, SameSpan, IsPivot, IsReducedRow, ArePivots, DiffersBySpan, rows_of}
 use Rattle.alb_rows.proofs.SpanLemmas.{pivot_through, mod_add, mod_mul, span_zero, span_one, span_same, span_add, span_times, span_through}
 use Rattle.alb_reduce.proofs.DiagonalLemmas.{zero_mod, add_zeros, add_zero_left, add_zero_right, mul_zero_left, mul_zero_right, mul_one_left, mul_one_right, diagonal_zero, diagonal_all, diagonal_each, diagonal_row}
 use Rattle.alb_reduce.specs.Reduction.{Reduction, AddsPivot}
-use Rattle.alb_reduce.specs.Echelon.{IsDiagonal, IsEchelon, IsCleared, IsClearedAt, AreClearedAt, NewPivot, IsAscendingBelow, IsNarrow, IsKept}
+use Rattle.alb_reduce.specs.Echelon.{IsDiagonal, IsEchelon, IsCleared, IsClearedAt, AreClearedAt, NewPivot, IsAscendingBelow, IsNarrow, AreKeptRows}
 
 -- v is itself plus zero
 pub differs_none : {K : Type 0} (p : ℕ) (f : K → ℕ → ℕ) (v : ℕ → ℕ) → DiffersBySpan p f v v
@@ -193,7 +193,7 @@ cleared_at_pivots p pivots rows row w c pos h d is =
     sym (mod-eq_of_lt (entry_residue p w c pos d.residues.row d.residues.residues)) ∙ zero
 
 pub new_pivot : (p : ℕ) (pivots : List ℕ) (rows : List Cells) (row w r : Cells) (c x i : ℕ) (cleared : List Cells) → IsEchelon p pivots rows
-    → IsCleared p pivots rows row w → LeadsWith w (c, x) → (x * i) % p ≡ 1 → ((j : ℕ) → entry r j ≡ (i * entry w j) % p) → IsRowOver p r
+    → IsCleared p pivots rows row w → RowLeadsWith w (c, x) → (x * i) % p ≡ 1 → ((j : ℕ) → entry r j ≡ (i * entry w j) % p) → IsRowOver p r
     → AreClearedAt p c r rows cleared (length rows) → NewPivot p pivots rows row c (cleared ++ r ∷ [])
 new_pivot p pivots rows row w r c x i cleared h d lead inverse scaled residues a =
     record {
@@ -287,7 +287,7 @@ span_dependent p rows row s = record { into = λ k. span_one p (rows_of (row ∷
 pub positive : {p : ℕ} → 1 < p → 0 < p
 positive h = omega arith
 
-pub lead_below : (p : ℕ) (w : Cells) (c x : ℕ) → 0 < p → IsRowOver p w → LeadsWith w (c, x) → x < p
+pub lead_below : (p : ℕ) (w : Cells) (c x : ℕ) → 0 < p → IsRowOver p w → RowLeadsWith w (c, x) → x < p
 lead_below p w c x pos h lead = subst (λ (n : ℕ). n < p) lead.entry_is (entry_residue p w c pos h.row h.residues)
 
 -- the last clause of offer: the column of the answer
@@ -421,12 +421,12 @@ narrow_new p columns rows rows' row h narrow same k j l = span_zero_at p (rows_o
     each zero = ap (λ n. n % p) (entry_past row columns j narrow l) ∙ zero_mod p
     each (suc m) = h m j l
 
-pub kept_more : (p columns : ℕ) (pivots : List ℕ) (rows : List Cells) (row : Cells) (c : ℕ) (rows' : List Cells) → IsKept p columns pivots rows → ColumnsBelow columns row
-    → NewPivot p pivots rows row c rows' → IsKept p columns (pivots ++ c ∷ []) rows'
+pub kept_more : (p columns : ℕ) (pivots : List ℕ) (rows : List Cells) (row : Cells) (c : ℕ) (rows' : List Cells) → AreKeptRows p columns pivots rows → ColumnsBelow columns row
+    → NewPivot p pivots rows row c rows' → AreKeptRows p columns (pivots ++ c ∷ []) rows'
 kept_more p columns pivots rows row c rows' h narrow new =
     record { echelon = new.echelon; narrow = narrow_new p columns rows rows' row h.narrow narrow new.span }
 
-pub form_pivots : (p columns : ℕ) (order : List ℕ) (rows : List Cells) (ps : List ℕ) → IsKept p columns order rows → IsAscendingBelow order columns ps → ArePivots p (rows_of rows) ps
+pub form_pivots : (p columns : ℕ) (order : List ℕ) (rows : List Cells) (ps : List ℕ) → AreKeptRows p columns order rows → IsAscendingBelow order columns ps → ArePivots p (rows_of rows) ps
 form_pivots p columns order rows ps h a =
     closed p columns order ps rows h.echelon
     (λ i l. pivot_below p columns rows (get_or order i 0) h.narrow

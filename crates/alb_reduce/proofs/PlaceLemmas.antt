@@ -5,7 +5,7 @@ use Rattle.std.proofs.lemmas.Bool.{cases_eq}
 use Rattle.std.specs.Prelude.{Option, Some, None, MatchOption, is_some, slice_index}
 use Rattle.std.specs.List.{Contains}
 use Rattle.std.proofs.lemmas.List.{length_push, get_or_push, get_or_append_left, get_or_past, get_or_default, get_or-take, length-take, take_more}
-use Rattle.alb_rows.specs.Row.{Cells, entry, IsRowOver, LeadsWith}
+use Rattle.alb_rows.specs.Row.{Cells, entry, IsRowOver, RowLeadsWith}
 use Rattle.alb_rows.specs.Span.{rows_of, DiffersBySpan}
 use Rattle.alb_rows.proofs.RowLemmas.{at_column-other}
 use Rattle.alb_rows.proofs.SpanLemmas.{mod_add}
@@ -71,7 +71,7 @@ index_push pivots places places' c x fresh puts = record {
     old k l = get_or_append_left pivots (c ∷ []) 0 k l
 
 -- the lead of a cleared row is no pivot
-pub lead_fresh : (p : ℕ) (pivots : List ℕ) (rows : List Cells) (row w : Cells) (lead : ℕ × ℕ) → IsCleared p pivots rows row w → LeadsWith w lead → lead.1 < p →
+pub lead_fresh : (p : ℕ) (pivots : List ℕ) (rows : List Cells) (row w : Cells) (lead : ℕ × ℕ) → IsCleared p pivots rows row w → RowLeadsWith w lead → lead.1 < p →
     (k : ℕ) → k < length pivots → get_or pivots k 0 ≢ lead.0
 lead_fresh p pivots rows row w lead d h small k l e =
     h.nonzero

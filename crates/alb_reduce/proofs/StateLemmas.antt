@@ -9,14 +9,14 @@ use Rattle.std.proofs.lemmas.List.{get_or_default, get_or-map, length-map}
 use Rattle.std.proofs.lemmas.List.Elements.{All-push}
 use Rattle.std.proofs.Math.Nat.{mod-eq_of_lt}
 use Rattle.gf_sums.specs.Sums.{Comb}
-use Rattle.alb_rows.specs.Row.{Cells, ColumnsBelow, comb, entry, IsRowOver, LeadsWith}
+use Rattle.alb_rows.specs.Row.{Cells, ColumnsBelow, comb, entry, IsRowOver, RowLeadsWith}
 use Rattle.alb_rows.specs.Span.{combination, InSpan, IsPivot, IsReducedRow, ArePivots, rows_of, SameSpan}
 use Rattle.alb_rows.proofs.RowLemmas.{entry_residue, entry_past, below_from_entries}
 use Rattle.alb_reduce.specs.Reduction.{Reduction, IsNewTag, IsRecipe, offered}
 use Rattle.alb_reduce.specs.declared.kept.Kept.{Kept}
 use Rattle.alb_reduce.specs.declared.echelon.Offered.{Offered}
 use Rattle.alb_reduce.specs.declared.echelon.Offered.TheVariants.{Dependent, Pivot}
-use Rattle.alb_reduce.specs.Echelon.{IsEchelon, IsCleared, IsIndex, Keeps, NewPivot, IsNarrow, IsKept, Agrees, AllAgree, IsState, IsForm}
+use Rattle.alb_reduce.specs.Echelon.{IsEchelon, IsCleared, IsIndex, Keeps, NewPivot, IsNarrow, AreKeptRows, Agrees, AllAgree, IsState, IsForm}
 use Rattle.alb_reduce.proofs.DiagonalLemmas.{zero_mod, add_zero_right, diagonal_each, diagonal_row}
 use Rattle.alb_reduce.proofs.EchelonLemmas.{span_zero_at, pivot_below, kept_more, positive, dependent, span_dependent}
 use Rattle.alb_reduce.proofs.RecipeLemmas.{recipes_old, recipes_more, reduced_same, recipe_tags, recipe_residues, recipe_ascending}
@@ -26,7 +26,7 @@ use Rattle.alb_reduce.proofs.RecipeLemmas.{recipes_old, recipes_more, reduced_sa
 zero_entry : (p : ℕ) (xs : Cells) (j : ℕ) → 0 < p → IsRowOver p xs → entry xs j % p ≡ 0 → entry xs j ≡ 0
 zero_entry p xs j pos h z = sym (mod-eq_of_lt (entry_residue p xs j pos h.row h.residues)) ∙ z
 
-pub reduced_below : (p columns : ℕ) (pivots : List ℕ) (rows : List Cells) (row w : Cells) → IsKept p columns pivots rows → ColumnsBelow columns row →
+pub reduced_below : (p columns : ℕ) (pivots : List ℕ) (rows : List Cells) (row w : Cells) → AreKeptRows p columns pivots rows → ColumnsBelow columns row →
     IsCleared p pivots rows row w → ColumnsBelow columns w
 reduced_below p columns pivots rows row w h narrow d =
     below_from_entries columns w d.residues.row (λ j le. zero_entry p w j (positive h.echelon.above) d.residues
@@ -37,7 +37,7 @@ pub pivots_below : (p columns : ℕ) (rows : List Cells) (ps : List ℕ) → IsN
 pivots_below p columns rows ps narrow a k d l =
     rw (get_or_default ps k d 0 l) (pivot_below p columns rows (get_or ps k 0) narrow (a.each k l))
 
-pub row_below : (p columns : ℕ) (pivots : List ℕ) (rows : List Cells) (k : ℕ) → IsKept p columns pivots rows → k < length rows → ColumnsBelow columns (get_or rows k [])
+pub row_below : (p columns : ℕ) (pivots : List ℕ) (rows : List Cells) (k : ℕ) → AreKeptRows p columns pivots rows → k < length rows → ColumnsBelow columns (get_or rows k [])
 row_below p columns pivots rows k h l =
     let over : IsRowOver p (get_or rows k []) = h.echelon.residues k [] l in
     below_from_entries columns (get_or rows k []) over.row (λ j le. zero_entry p (get_or rows k []) j (positive h.echelon.above) over (h.narrow k j le))
@@ -49,7 +49,7 @@ found_pivot p order rows c k h l e =
     subst (λ (n : ℕ). IsPivot p (rows_of rows) n) e (diagonal_each p (length order) (λ i. get_or order i 0) (rows_of rows) k h.above h.diagonal l)
 
 pub row_leads : (p : ℕ) (order : List ℕ) (rows : List Cells) (c k : ℕ) (x : Cells) → IsEchelon p order rows → k < length order → get_or order k 0 ≡ c →
-    x ≡ get_or rows k [] → LeadsWith x (c, 1)
+    x ≡ get_or rows k [] → RowLeadsWith x (c, 1)
 row_leads p order rows c k x h l e is =
     let pos : 0 < p = positive h.above in
     let over : IsRowOver p (get_or rows k []) = h.residues k [] (omega (arith, h.long, l)) in

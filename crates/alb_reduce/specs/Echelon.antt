@@ -78,7 +78,7 @@ pub record IsAscendingBelow (order : List ℕ) (n : ℕ) (pivots : List ℕ) : T
 abbrev pub IsNarrow : ℕ → ℕ → List Cells → Type 0
 IsNarrow p columns rows = (k j : ℕ) → columns ≤ j → rows_of rows k j % p ≡ 0
 
-pub record IsKept (p columns : ℕ) (pivots : List ℕ) (rows : List Cells) : Type 0 where
+pub record AreKeptRows (p columns : ℕ) (pivots : List ℕ) (rows : List Cells) : Type 0 where
   pub echelon : IsEchelon p pivots rows
   pub narrow : IsNarrow p columns rows
 
@@ -119,7 +119,7 @@ pub record AreRecipes (p : ℕ) (offers : List (ℕ × Cells)) (recipes rows : L
 
 -- what an Echelon keeps
 pub record IsState (p columns : ℕ) (keeps : Bool) (pivots : List ℕ) (rows recipes : List Cells) (offers : List (ℕ × Cells)) : Type 0 where
-  pub kept : IsKept p columns pivots rows
+  pub kept : AreKeptRows p columns pivots rows
   pub long : length recipes ≡ length rows
   pub residues : All (IsRowOver p) recipes
   pub recipes_are : IsTrue keeps → AreRecipes p offers recipes rows

@@ -1,6 +1,6 @@
 ghost use Rattle.std.specs.Prelude.{◌≡◌, ℕ, ◌<◌, ◌↔◌, IsTrue, IsSome, IfSome};
 ghost use Rattle.std.specs.List.{All};
-ghost use Rattle.alb_rows.specs.Row.{ColumnsBelow, entry, IsRowOver, LeadsWith};
+ghost use Rattle.alb_rows.specs.Row.{ColumnsBelow, entry, IsRowOver, RowLeadsWith};
 ghost use Rattle.alb_rows.specs.Span.{ArePivots, IsPivot, IsReducedRow};
 ghost use Rattle.alb_reduce.specs.Reduction.{IsRecipe, kept};
 
@@ -57,7 +57,7 @@ impl Reduced {
     pub fn row_of(&self, column: u32) -> Option<&Row>
         ensures exactly { IsSome result ↔ IsPivot self.now.p (kept self.now) column }
         ensures reduced { IfSome result (λ r. IsReducedRow self.now.p (kept self.now) column (entry r.now)) }
-        ensures leads { IfSome result (λ r. LeadsWith r.now (column, 1)) }
+        ensures leads { IfSome result (λ r. RowLeadsWith r.now (column, 1)) }
         ensures row { IfSome result (λ r. IsRowOver self.now.p r.now) }
         ensures columns { IfSome result (λ r. ColumnsBelow self.now.columns r.now) }
     {

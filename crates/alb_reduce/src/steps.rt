@@ -1,7 +1,7 @@
 //! Steps on the kept rows, each with its recipe.
 ghost use Rattle.std.specs.Prelude.{◌≡◌, ℕ, ◌<◌, ◌++◌, [], ◌∷◌, length, IfOk, OnOk};
 ghost use Rattle.std.specs.List.{All};
-ghost use Rattle.alb_rows.specs.Row.{Cells, entry, IsRowOver, LeadsWith};
+ghost use Rattle.alb_rows.specs.Row.{Cells, entry, IsRowOver, RowLeadsWith};
 ghost use Rattle.alb_reduce.specs.Echelon.{Agrees, AllAgree, AreClearedAt, IsCleared, IsClearedAt, IsEchelon, IsIndex, Keeps, NewPivot, RecipesFollow};
 
 use crate::echelon::Offered;
@@ -104,7 +104,7 @@ pub(crate) fn add_pivot(
     requires index { IsIndex kept.old.pivots.items kept.old.places.items }
     requires recipes_in { All (IsRowOver field.now) kept.old.recipes.items }
     requires long { length kept.old.recipes.items ≡ length kept.old.rows.items }
-    requires lead_is { LeadsWith row lead }
+    requires lead_is { RowLeadsWith row lead }
     requires lead_in { lead.1 < field.now }
     requires row_in { IsRowOver field.now row }
     requires recipe_in { IsRowOver field.now recipe }

@@ -10,11 +10,10 @@ use Rattle.std.proofs.Math.Seq.{take-length}
 use Rattle.std.proofs.lemmas.Bool.{cases_eq, cases_lt, cases_order, eq-eqb, ne_eqb}
 use Rattle.gf_sums.specs.Sums.{Comb, coefficient, scale}
 use Rattle.gf_sums.proofs.Totals.{numbers-tell, total-append, weigh-scale, coefficient-weigh}
-use Rattle.alb_rows.specs.Row.{Cells, comb, entry, AreSameVector, ColumnsBelow, AreResidues, IsRow, IsRowOver, LeadsWith}
+use Rattle.alb_rows.specs.Row.{Cells, comb, entry, AreSameVector, ColumnsBelow, AreCellResidues, IsRow, IsRowOver, RowLeadsWith}
 use Rattle.alb_rows.specs.Merge.{at_column, NextFrom, AddsAt, Merged, times_cells}
 use Rattle.std.specs.Prelude.{IfSome, Option, slice_get, slice_index_or}
-use Rattle.gf_field.specs.Primes.{IsInTable}
-use Rattle.gf_field.specs.Modular.{IsSameMod}
+use Rattle.gf_field.specs.Modular.{IsInTable, IsSameMod}
 use Rattle.gf_field.proofs.Mod.{same, ◌⊙◌, of_mod, cancel_times, residues as residues_equal}
 use Rattle.gf_field.proofs.Table.{IsPrime-from_table, IsUnit-below_prime}
 
@@ -72,7 +71,7 @@ pub merged_step : (p : ℕ) (a : Cells) (c : ℕ) (b : Cells) (i k i' k' : ℕ) 
     → (m : Merged p a c b i k out) → m.top ≤ column
     → AddsAt (take i a) (take i' a) column x → AddsAt (take k b) (take k' b) column y → AddsAt out out' column value
     → value ≡ (x + (c * y) % p) % p
-    → IsRow out' → AreResidues p out' → NextFrom (column + 1) a i' → NextFrom (column + 1) b k'
+    → IsRow out' → AreCellResidues p out' → NextFrom (column + 1) a i' → NextFrom (column + 1) b k'
     → Merged p a c b i' k' out'
 merged_step p a c b i k i' k' out out' column x y value m le ta tb to e row residues na nb =
     record {
@@ -134,8 +133,8 @@ residue_mod p x c l = sym (ap (λ n. (x + n) % p) (ap (λ n. n % p) (omega arith
     mod-zero q = grind arith
 
 -- a cell of the left list alone
-pub merged_left : (p : ℕ) (a : Cells) (c : ℕ) (b : Cells) (i k : ℕ) (out out' : Cells) → IsRow a → AreResidues p a → Merged p a c b i k out → IsAlone a i b k
-    → AddsAt out out' (get_or a i (0, 0)).0 (get_or a i (0, 0)).1 → IsRow out' → AreResidues p out' → Merged p a c b (i + 1) k out'
+pub merged_left : (p : ℕ) (a : Cells) (c : ℕ) (b : Cells) (i k : ℕ) (out out' : Cells) → IsRow a → AreCellResidues p a → Merged p a c b i k out → IsAlone a i b k
+    → AddsAt out out' (get_or a i (0, 0)).0 (get_or a i (0, 0)).1 → IsRow out' → AreCellResidues p out' → Merged p a c b (i + 1) k out'
 merged_left p a c b i k out out' row residues m alone adds row' residues' =
     merged_step p a c b i k (i + 1) k out out' (get_or a i (0, 0)).0 (get_or a i (0, 0)).1 0 (get_or a i (0, 0)).1 m (m.a_next alone.within)
     (adds_take a i _ _ alone.within refl refl) (adds_nothing (take k b) _) adds (residue_mod p _ c (residues i (0, 0) alone.within)) row' residues'
@@ -143,7 +142,7 @@ merged_left p a c b i k out out' row residues m alone adds row' residues' =
 
 -- a cell of the right list alone
 pub merged_right : (p : ℕ) (a : Cells) (c : ℕ) (b : Cells) (i k value : ℕ) (out out' : Cells) → IsRow b → Merged p a c b i k out → IsAlone b k a i
-    → value ≡ (c * (get_or b k (0, 0)).1) % p → AddsAt out out' (get_or b k (0, 0)).0 value → IsRow out' → AreResidues p out' → Merged p a c b i (k + 1) out'
+    → value ≡ (c * (get_or b k (0, 0)).1) % p → AddsAt out out' (get_or b k (0, 0)).0 value → IsRow out' → AreCellResidues p out' → Merged p a c b i (k + 1) out'
 merged_right p a c b i k value out out' row m alone e adds row' residues' =
     merged_step p a c b i k i (k + 1) out out' (get_or b k (0, 0)).0 0 (get_or b k (0, 0)).1 value m (m.b_next alone.within)
     (adds_nothing (take i a) _) (adds_take b k _ _ alone.within refl refl) adds (e ∙ sym (mod-mod _ p) ∙ ap (λ n. n % p) (omega arith)) row' residues'
@@ -151,7 +150,7 @@ merged_right p a c b i k value out out' row m alone e adds row' residues' =
 
 -- two cells of one column
 pub merged_both : (p : ℕ) (a : Cells) (c : ℕ) (b : Cells) (i k y value : ℕ) (out out' : Cells) → IsRow a → IsRow b → Merged p a c b i k out → IsShared a i b k
-    → y ≡ (c * (get_or b k (0, 0)).1) % p → value ≡ ((get_or a i (0, 0)).1 + y) % p → AddsAt out out' (get_or b k (0, 0)).0 value → IsRow out' → AreResidues p out'
+    → y ≡ (c * (get_or b k (0, 0)).1) % p → value ≡ ((get_or a i (0, 0)).1 + y) % p → AddsAt out out' (get_or b k (0, 0)).0 value → IsRow out' → AreCellResidues p out'
     → Merged p a c b (i + 1) (k + 1) out'
 merged_both p a c b i k y value out out' a_row b_row m shared times e adds row' residues' =
     merged_step p a c b i k (i + 1) (k + 1) out out' (get_or b k (0, 0)).0 (get_or a i (0, 0)).1 (get_or b k (0, 0)).1 value m (m.b_next shared.right)
@@ -174,7 +173,7 @@ row_push xs column value h below ne =
     }
 
 -- a cell of the left list alone, as it is
-pub left_push : (p : ℕ) (a : Cells) (c : ℕ) (b : Cells) (i k : ℕ) (out : Cells) → IsRow a → AreResidues p a → Merged p a c b i k out → IsAlone a i b k
+pub left_push : (p : ℕ) (a : Cells) (c : ℕ) (b : Cells) (i k : ℕ) (out : Cells) → IsRow a → AreCellResidues p a → Merged p a c b i k out → IsAlone a i b k
     → Merged p a c b (i + 1) k (out ++ get_or a i (0, 0) ∷ [])
 left_push p a c b i k out row residues m alone =
     let x : ℕ × ℕ = get_or a i (0, 0) in
@@ -211,7 +210,7 @@ entry_before (x ∷ xs) j h =
 pub tail_later : (x : ℕ × ℕ) (xs : Cells) → IsRow (x ∷ xs) → All (λ cell. x.0 < cell.0) xs
 tail_later x xs h = λ k d l. h.ascending 0 (suc k) d (omega arith) (omega arith)
 
-pub leads_first : (xs : Cells) (o : Option (ℕ × ℕ)) → IsRow xs → o ≡ slice_get xs 0 → IfSome o (LeadsWith xs)
+pub leads_first : (xs : Cells) (o : Option (ℕ × ℕ)) → IsRow xs → o ≡ slice_get xs 0 → IfSome o (RowLeadsWith xs)
 leads_first [] o h e = rw e tt
 leads_first (x ∷ xs) o h e =
     rw e
@@ -273,7 +272,7 @@ product_nonzero p x y listed lx nx ly ny z =
     let h : IsSameMod p (x * y) (x * 0) = record { same = z ∙ grind arith } in
     ny (residues_equal ly (omega arith) (cancel_times x u h))
 
-pub row_times : (p c : ℕ) (xs : Cells) → IsInTable p → c < p → c ≢ 0 → AreResidues p xs → IsRow xs → IsRow (times_cells p c xs)
+pub row_times : (p c : ℕ) (xs : Cells) → IsInTable p → c < p → c ≢ 0 → AreCellResidues p xs → IsRow xs → IsRow (times_cells p c xs)
 row_times p c xs size l ne residues h =
     let f : ℕ × ℕ → ℕ × ℕ = λ cell. (cell.0, (c * cell.1) % p) in
     record {
@@ -286,7 +285,7 @@ row_times p c xs size l ne residues h =
           rw (get_or-map f xs k d d lk) (product_nonzero p c (get_or xs k d).1 size l ne (residues k d lk) (h.nonzero k d lk));
     }
 
-pub residues_times : (p c : ℕ) (xs : Cells) → c < p → AreResidues p (times_cells p c xs)
+pub residues_times : (p c : ℕ) (xs : Cells) → c < p → AreCellResidues p (times_cells p c xs)
 residues_times p c xs l k d m =
     let f : ℕ × ℕ → ℕ × ℕ = λ cell. (cell.0, (c * cell.1) % p) in
     let lk : k < length xs = simp length-map at m in
@@ -336,7 +335,7 @@ row_is_its_entries (x ∷ xs) (y ∷ ys) h g e =
     cancel a b c d p q = omega arith
 
 -- an entry of a row of residues is a residue
-pub entry_residue : (p : ℕ) (xs : Cells) (j : ℕ) → 0 < p → IsRow xs → AreResidues p xs → entry xs j < p
+pub entry_residue : (p : ℕ) (xs : Cells) (j : ℕ) → 0 < p → IsRow xs → AreCellResidues p xs → entry xs j < p
 entry_residue p [] j pos h r = pos
 entry_residue p (x ∷ xs) j pos h r =
     elim (cases_eq x.0 j) [
@@ -376,7 +375,7 @@ sum_below p c xs ys out h e n a b =
 pub scaled_below : (p c : ℕ) (xs out : Cells) → IsRow out → ((j : ℕ) → entry out j ≡ (c * entry xs j) % p) → (n : ℕ) → ColumnsBelow n xs → ColumnsBelow n out
 scaled_below p c xs out h e n a = below_from_entries n out h (λ j le. e j ∙ rw (entry_past xs n j a le) (grind arith))
 
-no_residues : (xs : Cells) → AreResidues 0 xs → xs ≡ []
+no_residues : (xs : Cells) → AreCellResidues 0 xs → xs ≡ []
 no_residues [] h = refl
 no_residues (x ∷ xs) h = let l : x.1 < 0 = h 0 x (omega arith) in absurd (omega arith)
 
@@ -386,7 +385,7 @@ row_is_its_vector (suc p) xs ys h g e =
     row_is_its_entries xs ys h.row g.row
     (λ j. residues_equal (entry_residue (suc p) xs j (omega arith) h.row h.residues) (entry_residue (suc p) ys j (omega arith) g.row g.residues) (e j))
 
-pub zero_is_empty : (p : ℕ) (xs : Cells) → IsRow xs → AreResidues p xs → AreSameVector p (comb xs) [] → xs ≡ []
+pub zero_is_empty : (p : ℕ) (xs : Cells) → IsRow xs → AreCellResidues p xs → AreSameVector p (comb xs) [] → xs ≡ []
 zero_is_empty p xs h r e = row_is_its_vector p xs [] (record { row = h; residues = r }) (record { row = record { ascending = λ i j d l m. absurd (omega arith); nonzero = λ k d l. absurd (omega arith) }; residues = λ k d l. absurd (omega arith) }) e
 
 pub empty_is_zero : (p : ℕ) (xs : Cells) → xs ≡ [] → AreSameVector p (comb xs) []

@@ -1,6 +1,6 @@
 -- The merge of two rows into a sum.
 use Rattle.std.specs.Prelude.{ℕ, ◌≡◌, ◌<◌, ◌≤◌, ◌+◌, ◌*◌, ◌%◌, ◌==◌, if◌then◌else◌, length, slice_index_or, take, map}
-use Rattle.alb_rows.specs.Row.{Cells, entry, ColumnsBelow, AreResidues, IsRow}
+use Rattle.alb_rows.specs.Row.{Cells, entry, ColumnsBelow, AreCellResidues, IsRow}
 
 -- the residue at a column, where another column has 0
 abbrev pub at_column : ℕ → ℕ → ℕ → ℕ
@@ -18,7 +18,7 @@ pub record AddsAt (old new : Cells) (column value : ℕ) : Type 0 where
 -- what the merge of a and c times b keeps, where it has taken i and k cells
 pub record Merged (p : ℕ) (a : Cells) (c : ℕ) (b : Cells) (i k : ℕ) (out : Cells) : Type 0 where
   pub row : IsRow out
-  pub residues : AreResidues p out
+  pub residues : AreCellResidues p out
   pub top : ℕ
   pub out_below : ColumnsBelow top out
   pub a_below : ColumnsBelow top (take i a)

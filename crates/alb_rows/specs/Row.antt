@@ -20,8 +20,8 @@ abbrev pub ColumnsBelow : ℕ → Cells → Type 0
 ColumnsBelow n cells = All (λ cell. cell.0 < n) cells
 
 -- every cell has a residue of the field with p elements
-abbrev pub AreResidues : ℕ → Cells → Type 0
-AreResidues p cells = All (λ cell. cell.1 < p) cells
+abbrev pub AreCellResidues : ℕ → Cells → Type 0
+AreCellResidues p cells = All (λ cell. cell.1 < p) cells
 
 -- the columns ascend, and no cell is zero
 pub record IsRow (cells : Cells) : Type 0 where
@@ -31,10 +31,10 @@ pub record IsRow (cells : Cells) : Type 0 where
 -- a row of residues of the field with p elements
 pub record IsRowOver (p : ℕ) (cells : Cells) : Type 0 where
   pub row : IsRow cells
-  pub residues : AreResidues p cells
+  pub residues : AreCellResidues p cells
 
 -- the least column where the row is not zero, and its residue there
-pub record LeadsWith (cells : Cells) (lead : ℕ × ℕ) : Type 0 where
+pub record RowLeadsWith (cells : Cells) (lead : ℕ × ℕ) : Type 0 where
   pub entry_is : entry cells lead.0 ≡ lead.1
   pub nonzero : lead.1 ≢ 0
   pub before : (j : ℕ) → j < lead.0 → entry cells j ≡ 0

@@ -1,6 +1,6 @@
 //! Loops over the cells of rows.
 ghost use Rattle.std.specs.Prelude.{◌≡◌, ℕ, ◌+◌, ◌<◌, ◌≤◌, ◌≢◌, ◌^◌, length, slice_index_or, OnOk, IfOk};
-ghost use Rattle.alb_rows.specs.Row.{IsRow, AreResidues, ColumnsBelow};
+ghost use Rattle.alb_rows.specs.Row.{IsRow, AreCellResidues, ColumnsBelow};
 ghost use Rattle.alb_rows.specs.Merge.{AddsAt, Merged, NextFrom, times_cells};
 
 use alb_mono::NoMemory;
@@ -10,7 +10,7 @@ use std::alloc::Global;
 // Each cell times c.
 pub(crate) fn scale_cells(cells: &mut [(u32, Residue)], field: &Field, c: Residue)
     requires row { IsRow cells.old }
-    requires row_in { AreResidues field.now cells.old }
+    requires row_in { AreCellResidues field.now cells.old }
     requires c_in { c < field.now }
     requires nonzero { c ≢ 0 }
     ensures { cells.new ≡ times_cells field.now c cells.old }
@@ -26,7 +26,7 @@ fn push_cell(out: &mut Vec<(u32, Residue)>, column: u32, value: Residue) -> Resu
     requires below { ColumnsBelow column out.old.items }
     ensures row { IsRow out.new.items }
     ensures adds { OnOk result (AddsAt out.old.items out.new.items column value) }
-    ensures residues { (p : ℕ) → value < p → AreResidues p out.old.items → AreResidues p out.new.items }
+    ensures residues { (p : ℕ) → value < p → AreCellResidues p out.old.items → AreCellResidues p out.new.items }
 {
     if value != 0 {
         out.push((column, value))?;
@@ -68,7 +68,7 @@ impl Merging {
         ensures within { self.new.taken ≤ length a.now }
         ensures all { OnOk result (length b.now ≤ k → self.new.taken ≡ length a.now) }
         ensures before { OnOk result (k < length b.now → NextFrom (slice_index_or b.now k (0, 0)).0 a.now self.new.taken) }
-        ensures merged { OnOk result ((p c : ℕ) → AreResidues p a.now → Merged p a.now c b.now self.old.taken k self.old.cells.items
+        ensures merged { OnOk result ((p c : ℕ) → AreCellResidues p a.now → Merged p a.now c b.now self.old.taken k self.old.cells.items
             → Merged p a.now c b.now self.new.taken k self.new.cells.items) }
     {
         let end = column_at(b, k);
@@ -90,8 +90,8 @@ impl Merging {
     ) -> Result<(), NoMemory>
         requires a_row { IsRow a.now }
         requires b_row { IsRow b.now }
-        requires a_in { AreResidues field.now a.now }
-        requires b_in { AreResidues field.now b.now }
+        requires a_in { AreCellResidues field.now a.now }
+        requires b_in { AreCellResidues field.now b.now }
         requires c_in { c < field.now }
         requires a_within { self.old.taken ≤ length a.now }
         requires b_within { k < length b.now }
@@ -122,8 +122,8 @@ pub(crate) fn merged(
 ) -> Result<Vec<(u32, Residue)>, NoMemory>
     requires a_row { IsRow a.now }
     requires b_row { IsRow b.now }
-    requires a_in { AreResidues field.now a.now }
-    requires b_in { AreResidues field.now b.now }
+    requires a_in { AreCellResidues field.now a.now }
+    requires b_in { AreCellResidues field.now b.now }
     requires c_in { c < field.now }
     ensures { IfOk result (λ out. Merged field.now a.now c b.now (length a.now) (length b.now) out.items) }
 {

@@ -1,6 +1,6 @@
 ghost use Rattle.std.specs.Prelude.{◌≡◌, ℕ, ◌+◌, ◌*◌, ◌%◌, ◌<◌, ◌≢◌, ◌++◌, ◌==◌, if◌then◌else◌, IsTrue, ◌↔◌, [], ◌∷◌, OnOk, OnErr, IfSome, IfNone, IfOk};
 ghost use Rattle.gf_sums.specs.Sums.{scale};
-ghost use Rattle.alb_rows.specs.Row.{comb, entry, IsRow, AreResidues, AreSameVector, ColumnsBelow, LeadsWith};
+ghost use Rattle.alb_rows.specs.Row.{comb, entry, IsRow, AreCellResidues, AreSameVector, ColumnsBelow, RowLeadsWith};
 
 use crate::merge::{merged, scale_cells};
 use crate::search::entry_at;
@@ -42,7 +42,7 @@ impl Row {
         ensures value { IfOk result (λ r. r ≡ (if c == 0 then [] else (column, c) ∷ [])) }
         ensures entries { IfOk result (λ r. (j : ℕ) → entry r j ≡ (if column == j then c else 0)) }
         ensures row { IfOk result (λ r. IsRow r) }
-        ensures residues { IfOk result (λ r. (p : ℕ) → c < p → AreResidues p r) }
+        ensures residues { IfOk result (λ r. (p : ℕ) → c < p → AreCellResidues p r) }
     {
         let mut cells = Vec::new(alloc);
         if c != 0 {
@@ -80,14 +80,14 @@ impl Row {
     /// Whether the row has no cell, so is the zero vector.
     pub fn is_zero(&self) -> bool
         ensures value { IsTrue result ↔ (self.now ≡ []) }
-        ensures vector { (p : ℕ) → AreResidues p self.now → (IsTrue result ↔ AreSameVector p (comb self.now) []) }
+        ensures vector { (p : ℕ) → AreCellResidues p self.now → (IsTrue result ↔ AreSameVector p (comb self.now) []) }
     {
         self.cells.is_empty()
     }
 
     /// The least column with its residue; `None` exactly for the zero row.
     pub fn lead(&self) -> Option<(u32, Residue)>
-        ensures some { IfSome result (LeadsWith self.now) }
+        ensures some { IfSome result (RowLeadsWith self.now) }
         ensures none { IfNone result (self.now ≡ []) }
     {
         self.cells.first().copied()
@@ -96,21 +96,21 @@ impl Row {
     /// The residue at a column, 0 where the row has no cell. It is found by halving.
     pub fn entry(&self, column: u32) -> Residue
         ensures value { result ≡ entry self.now column }
-        ensures residue { (p : ℕ) → 0 < p → AreResidues p self.now → result < p }
+        ensures residue { (p : ℕ) → 0 < p → AreCellResidues p self.now → result < p }
     {
         entry_at(&self.cells, column)
     }
 
     /// Each entry times `c`, which is not 0.
     pub fn scale(&mut self, field: &Field, c: Residue)
-        requires row_in { AreResidues field.now self.old }
+        requires row_in { AreCellResidues field.now self.old }
         requires c_in { c < field.now }
         requires nonzero { c ≢ 0 }
         ensures entries { (j : ℕ) → entry self.new j ≡ (c * entry self.old j) % field.now }
         ensures vector { AreSameVector field.now (comb self.new) (scale c (comb self.old)) }
         ensures columns { (n : ℕ) → ColumnsBelow n self.old → ColumnsBelow n self.new }
         ensures row { IsRow self.new }
-        ensures residues { AreResidues field.now self.new }
+        ensures residues { AreCellResidues field.now self.new }
     {
         prove!(u64::from(c) < field.p());
         scale_cells(&mut self.cells, field, c);
@@ -118,14 +118,14 @@ impl Row {
 
     /// Adds `c` times the other row, which costs a step for each cell of the two. After an error the row is unchanged.
     pub fn add_scaled(&mut self, field: &Field, c: Residue, other: &Row) -> Result<(), NoMemory>
-        requires row_in { AreResidues field.now self.old }
-        requires other_in { AreResidues field.now other.now }
+        requires row_in { AreCellResidues field.now self.old }
+        requires other_in { AreCellResidues field.now other.now }
         requires c_in { c < field.now }
         ensures entries { OnOk result ((j : ℕ) → entry self.new j ≡ (entry self.old j + c * entry other.now j) % field.now) }
         ensures vector { OnOk result (AreSameVector field.now (comb self.new) (comb self.old ++ scale c (comb other.now))) }
         ensures columns { OnOk result ((n : ℕ) → ColumnsBelow n self.old → ColumnsBelow n other.now → ColumnsBelow n self.new) }
         ensures row { OnOk result (IsRow self.new) }
-        ensures residues { OnOk result (AreResidues field.now self.new) }
+        ensures residues { OnOk result (AreCellResidues field.now self.new) }
         ensures err { OnErr result (self.new ≡ self.old) }
     {
         let alloc = *self.cells.allocator();

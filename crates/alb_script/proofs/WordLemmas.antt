@@ -1,8 +1,7 @@
 -- The command word that a line begins with is one of the form.
 use Rattle.std.proofs.Common.{◌≡◌, ℕ, Bool, true, false, List, Option, Some, None, refl, subst}
 use Rattle.std.specs.Prelude.{if◌then◌else◌}
-use Rattle.alb_script.specs.Asked.{of_form, word_start, word_at, word_from, command_word}
-use Rattle.alb_script.specs.Words.{word_named, belongs}
+use Rattle.alb_script.specs.Asked.{of_form, word_start, word_at, word_from, command_word, word_named, belongs}
 use Rattle.alb_script.specs.declared.form.Form.{Form}
 use Rattle.alb_script.specs.declared.word.Word.{Word}
 

@@ -1,26 +1,81 @@
--- What a line of a script asks for.
-use Rattle.std.specs.Prelude.{◌≡◌, ℕ, ◌+◌, Bool, false, not, ◌&&◌, ◌==◌, nat_le, if◌then◌else◌, List, [], ◌∷◌, length, take, drop, position, slice_index, unwrap_or, Option, None, Some, Result, Ok, Err, All, IsTrue, ◌≤◌}
-use Rattle.alb_lex.specs.Lexing.{is_blank, tokens_from}
+-- The words of a script, and what a line asks for.
+use Rattle.std.specs.Prelude.{ℕ, Bool, true, false, if◌then◌else◌, List, Option, None, Some, codes, ◌≡◌, ◌+◌, not, ◌&&◌, ◌==◌, nat_le, [], ◌∷◌, length, take, drop, position, slice_index, unwrap_or, Result, Ok, Err, All, IsTrue, ◌≤◌}
+use Rattle.alb_lex.specs.Lexing.{is_word, is_blank, tokens_from}
+use Rattle.alb_script.specs.declared.form.Form.{Form}
+use Rattle.alb_script.specs.declared.word.Word.{Word}
 use Rattle.alb_lex.specs.declared.token.Token.{Token}
 use Rattle.alb_lex.specs.declared.token.TokenKind.{TokenKind}
-use Rattle.alb_lex.specs.declared.token.TokenKind.TheVariants as kinds
 use Rattle.alb_lex.specs.declared.error.LexError.{LexError}
-use Rattle.alb_lex.specs.declared.error.LexError.TheVariants as lex
-use Rattle.alb_mono.specs.Letters.{alphabet}
-use Rattle.alb_mono.specs.Tree.{are_below}
+use Rattle.alb_mono.specs.Tree.{alphabet, are_below}
 use Rattle.alb_poly.specs.Poly.{Poly, AreResidues}
 use Rattle.alb_syntax.specs.Reading.{denoted}
 use Rattle.alb_syntax.specs.declared.error.SyntaxError.{SyntaxError}
-use Rattle.alb_syntax.specs.declared.error.SyntaxError.TheVariants as syntax
-use Rattle.alb_script.specs.declared.form.Form.{Form}
-use Rattle.alb_script.specs.declared.word.Word.{Word}
-use Rattle.alb_script.specs.declared.word.Word.TheVariants as word
 use Rattle.alb_script.specs.declared.command.Command.{Command}
-use Rattle.alb_script.specs.declared.command.Command.TheVariants as commands
 use Rattle.alb_script.specs.declared.error.BadCommand.{BadCommand}
 use Rattle.alb_script.specs.declared.error.CommandError.{CommandError}
+use Rattle.alb_script.specs.declared.form.Form.TheVariants as form
+use Rattle.alb_script.specs.declared.word.Word.TheVariants as word
+use Rattle.alb_lex.specs.declared.token.TokenKind.TheVariants as kinds
+use Rattle.alb_lex.specs.declared.error.LexError.TheVariants as lex
+use Rattle.alb_syntax.specs.declared.error.SyntaxError.TheVariants as syntax
+use Rattle.alb_script.specs.declared.command.Command.TheVariants as commands
 use Rattle.alb_script.specs.declared.error.CommandError.TheVariants as errors
-use Rattle.alb_script.specs.Words.{word_named, belongs, is_early, is_late}
+
+-- ---- the command words: which form has them, and when they may stand
+
+-- the command word that a text is
+abbrev pub word_named : List ℕ → Option Word
+word_named text =
+    if is_word (codes "field") text then Some word.Field
+    else if is_word (codes "generators") text then Some word.Generators
+    else if is_word (codes "identity") text then Some word.Identity
+    else if is_word (codes "build") text then Some word.Build
+    else if is_word (codes "polynomial") text then Some word.Polynomial
+    else if is_word (codes "prove") text then Some word.Prove
+    else if is_word (codes "dimensions") text then Some word.Dimensions
+    else if is_word (codes "table") text then Some word.Table
+    else if is_word (codes "claim") text then Some word.Claim
+    else if is_word (codes "await") text then Some word.Await
+    else if is_word (codes "quit") text then Some word.Quit
+    else None
+
+-- the words that stand before `build` alone
+abbrev pub is_early : Word → Bool
+is_early word.Field = true
+is_early word.Generators = true
+is_early word.Identity = true
+is_early word.Build = true
+is_early other = false
+
+-- the words that ask for `build` before them
+abbrev pub is_late : Word → Bool
+is_late word.Polynomial = true
+is_late word.Prove = true
+is_late word.Dimensions = true
+is_late word.Table = true
+is_late word.Claim = true
+is_late word.Await = true
+is_late other = false
+
+-- the words of the forms: a batch has no claims and waits for nothing, a check alone has claims, and a session has no problem
+abbrev pub belongs : Form → Word → Bool
+belongs form.Batch word.Claim = false
+belongs form.Batch word.Await = false
+belongs form.Batch other = true
+belongs form.Check word.Polynomial = false
+belongs form.Check word.Prove = false
+belongs form.Check word.Dimensions = false
+belongs form.Check word.Table = false
+belongs form.Check word.Await = false
+belongs form.Check other = true
+belongs form.Session word.Field = false
+belongs form.Session word.Generators = false
+belongs form.Session word.Identity = false
+belongs form.Session word.Build = false
+belongs form.Session word.Claim = false
+belongs form.Session other = true
+
+-- ---- what a line of a script asks for
 
 -- what is asked for; the generators are tokens and the end place of the line
 pub data Asked : Type 0 where
@@ -88,23 +143,23 @@ only_number (Ok (t ∷ [])) = number_in t.kind
 only_number (Ok (t ∷ u ∷ ts)) = None
 only_number (Err e) = None
 
-abbrev pub or_bad : ℕ → Option ℕ → Result ℕ CommandError
-or_bad place (Some n) = Ok n
-or_bad place None = Err (errors.BadArgument place)
+abbrev pub or_bad_argument : ℕ → Option ℕ → Result ℕ CommandError
+or_bad_argument place (Some n) = Ok n
+or_bad_argument place None = Err (errors.BadArgument place)
 
 -- the one number of 1 to 18 digits that stands there
-unfoldable pub number_at : ℕ → List ℕ → Result ℕ CommandError
-number_at at line = or_bad (place_at at line) (only_number (tokens_from false (at + 1) (drop at line)))
+unfoldable pub number_argument : ℕ → List ℕ → Result ℕ CommandError
+number_argument at line = or_bad_argument (place_at at line) (only_number (tokens_from false (at + 1) (drop at line)))
 
 -- a degree, which is 1 to the total degree
 unfoldable pub degree_at : ℕ → ℕ → List ℕ → Result ℕ CommandError
-degree_at total at line = number_at at line >>= λ n. if nat_le 1 n && nat_le n total then Ok n else Err (errors.BadArgument (place_at at line))
+degree_at total at line = number_argument at line >>= λ n. if nat_le 1 n && nat_le n total then Ok n else Err (errors.BadArgument (place_at at line))
 
 -- ---- commands
 
 -- what a word asks for with the argument that stands behind it
 unfoldable pub asked_by : ℕ → ℕ → List ℕ → Word → ℕ → List ℕ → Result Asked CommandError
-asked_by total p letters word.Field at line = number_at at line >>= λ n. Ok (Field n)
+asked_by total p letters word.Field at line = number_argument at line >>= λ n. Ok (Field n)
 asked_by total p letters word.Generators at line = tokens_at at line >>= λ ts. Ok (Generators ts (length line + 1))
 asked_by total p letters word.Identity at line = poly_at p alphabet at line >>= λ f. Ok (Identity f)
 asked_by total p letters word.Build at line = alone Build at line
@@ -226,15 +281,15 @@ or_error (Ok x) = Ok x
 or_error (Err bad) = Err bad.error
 
 -- a polynomial over p elements and n generators, within the limits
-pub record IsRead (p n : ℕ) (f : Poly) : Type 0 where
+pub record IsPolyOver (p n : ℕ) (f : Poly) : Type 0 where
   pub residues : AreResidues p f
   pub few : length f ≤ 65536
   pub known : All (λ t. IsTrue (are_below n t.1)) f
 
 -- the polynomial of a command is over the field, and over the letters that its word asks for
-abbrev pub HasRead : ℕ → ℕ → Command → Type 0
-HasRead p n (commands.Identity f) = IsRead p 26 f
-HasRead p n (commands.Polynomial f) = IsRead p n f
-HasRead p n (commands.Prove f) = IsRead p n f
-HasRead p n (commands.Claim f) = IsRead p n f
-HasRead p n other = Unit {0}
+abbrev pub IsCommandOver : ℕ → ℕ → Command → Type 0
+IsCommandOver p n (commands.Identity f) = IsPolyOver p 26 f
+IsCommandOver p n (commands.Polynomial f) = IsPolyOver p n f
+IsCommandOver p n (commands.Prove f) = IsPolyOver p n f
+IsCommandOver p n (commands.Claim f) = IsPolyOver p n f
+IsCommandOver p n other = Unit {0}

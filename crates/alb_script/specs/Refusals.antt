@@ -2,16 +2,14 @@
 use Rattle.std.specs.Prelude.{ℕ, Bool, true, false, List, [], ◌++◌, Option, None, Some, codes, decimal, IsTrue}
 use Rattle.alb_lex.specs.declared.error.LexError.{LexError}
 use Rattle.alb_lex.specs.declared.error.LexError.TheVariants as lex
-use Rattle.alb_mono.specs.Letters.{alphabet}
-use Rattle.alb_mono.specs.Mono.{tree}
-use Rattle.alb_mono.specs.Tree.{are_below}
+use Rattle.alb_mono.specs.Tree.{alphabet, tree, are_below}
 use Rattle.alb_print.specs.Text.{mono_text}
 use Rattle.alb_syntax.specs.declared.error.SyntaxError.{SyntaxError}
 use Rattle.alb_syntax.specs.declared.error.SyntaxError.TheVariants as syntax
 use Rattle.alb_linear.specs.Identity as linear
 use Rattle.alb_linear.specs.declared.error.IdentityError.{IdentityError}
 use Rattle.alb_linear.specs.declared.error.IdentityError.TheVariants as identity
-use Rattle.alb_problem.specs.Refusals as refusals
+use Rattle.alb_problem.specs.Builder as refusals
 use Rattle.alb_problem.specs.declared.error.ProblemError.{ProblemError}
 use Rattle.alb_problem.specs.declared.error.ProblemError.TheVariants as problem
 use Rattle.alb_script.specs.declared.error.CommandError.{CommandError}
@@ -20,52 +18,52 @@ use Rattle.alb_script.specs.declared.refusal.Refusal.{Refusal}
 use Rattle.alb_script.specs.declared.refusal.Refusal.TheVariants as refusal
 
 -- a line of two parts
-abbrev pub line_of : List ℕ → List ℕ → List ℕ
-line_of front text = front ++ (text ++ codes "\n")
+abbrev pub line_with : List ℕ → List ℕ → List ℕ
+line_with front text = front ++ (text ++ codes "\n")
 
 abbrev pub lex_text : LexError → List ℕ
-lex_text (lex.BadByte place) = line_of (codes "refused 10 at ") (decimal place)
-lex_text (lex.NumberTooLong place) = line_of (codes "refused 11 at ") (decimal place)
+lex_text (lex.BadByte place) = line_with (codes "refused 10 at ") (decimal place)
+lex_text (lex.NumberTooLong place) = line_with (codes "refused 11 at ") (decimal place)
 lex_text lex.NoMemory = []
 
 abbrev pub syntax_text : SyntaxError → List ℕ
-syntax_text (syntax.Expected place) = line_of (codes "refused 20 at ") (decimal place)
-syntax_text (syntax.UnknownLetter place) = line_of (codes "refused 21 at ") (decimal place)
-syntax_text (syntax.TooDeep place) = line_of (codes "refused 22 at ") (decimal place)
-syntax_text (syntax.TooManyTerms place) = line_of (codes "refused 23 at ") (decimal place)
-syntax_text (syntax.TooHigh place) = line_of (codes "refused 24 at ") (decimal place)
+syntax_text (syntax.Expected place) = line_with (codes "refused 20 at ") (decimal place)
+syntax_text (syntax.UnknownLetter place) = line_with (codes "refused 21 at ") (decimal place)
+syntax_text (syntax.TooDeep place) = line_with (codes "refused 22 at ") (decimal place)
+syntax_text (syntax.TooManyTerms place) = line_with (codes "refused 23 at ") (decimal place)
+syntax_text (syntax.TooHigh place) = line_with (codes "refused 24 at ") (decimal place)
 syntax_text syntax.NoMemory = []
 
 abbrev pub command_text : CommandError → List ℕ
 command_text command.Unknown = codes "refused 80\n"
 command_text command.NotYetBuilt = codes "refused 81\n"
 command_text command.AlreadyBuilt = codes "refused 82\n"
-command_text (command.BadArgument place) = line_of (codes "refused 83 at ") (decimal place)
+command_text (command.BadArgument place) = line_with (codes "refused 83 at ") (decimal place)
 command_text (command.Lex e) = lex_text e
 command_text (command.Syntax e) = syntax_text e
 command_text command.NoMemory = []
 
 -- ---- refusals of the problem
 
-abbrev pub fault_text : linear.Fault → List ℕ
+abbrev pub fault_text : linear.IdentityFault → List ℕ
 fault_text linear.Zero = codes "refused 30\n"
-fault_text (linear.NotHomogeneous m) = line_of (codes "refused 31: ") (mono_text alphabet false m)
+fault_text (linear.NotHomogeneous m) = line_with (codes "refused 31: ") (mono_text alphabet false m)
 fault_text linear.DegreeOne = codes "refused 32\n"
 fault_text linear.DegreeOver8 = codes "refused 33\n"
 
-abbrev pub stated_text : refusals.Refusal → List ℕ
+abbrev pub stated_text : refusals.ProblemRefusal → List ℕ
 stated_text refusals.NotInTable = codes "refused 1\n"
 stated_text refusals.FieldAfterIdentity = codes "refused 40\n"
 stated_text refusals.GeneratorsTwice = codes "refused 45\n"
-stated_text (refusals.BadGenerators place) = line_of (codes "refused 41 at ") (decimal place)
+stated_text (refusals.BadGenerators place) = line_with (codes "refused 41 at ") (decimal place)
 stated_text refusals.TooManyIdentities = codes "refused 42\n"
 stated_text (refusals.NoIdentity fault) = fault_text fault
-stated_text (refusals.TooManyLinear n) = line_of (codes "refused 34: ") (decimal n)
+stated_text (refusals.TooManyLinear n) = line_with (codes "refused 34: ") (decimal n)
 stated_text refusals.NoGenerators = codes "refused 43\n"
 stated_text refusals.FieldTooSmall = codes "refused 44\n"
 
 -- the refusal that an error of an identity, or of a problem, tells; want of memory tells none
-abbrev pub told_by_identity : IdentityError → Option refusals.Refusal
+abbrev pub told_by_identity : IdentityError → Option refusals.ProblemRefusal
 told_by_identity identity.Zero = Some (refusals.NoIdentity linear.Zero)
 told_by_identity (identity.NotHomogeneous term) = Some (refusals.NoIdentity (linear.NotHomogeneous (tree term)))
 told_by_identity identity.DegreeOne = Some (refusals.NoIdentity linear.DegreeOne)
@@ -73,7 +71,7 @@ told_by_identity identity.DegreeOver8 = Some (refusals.NoIdentity linear.DegreeO
 told_by_identity (identity.TooManyLinear count) = Some (refusals.TooManyLinear count)
 told_by_identity identity.NoMemory = None
 
-abbrev pub told_by_problem : ProblemError → Option refusals.Refusal
+abbrev pub told_by_problem : ProblemError → Option refusals.ProblemRefusal
 told_by_problem problem.NotInTable = Some refusals.NotInTable
 told_by_problem problem.FieldAfterIdentity = Some refusals.FieldAfterIdentity
 told_by_problem (problem.BadGenerators place) = Some (refusals.BadGenerators place)
@@ -84,7 +82,7 @@ told_by_problem problem.FieldTooSmall = Some refusals.FieldTooSmall
 told_by_problem problem.GeneratorsTwice = Some refusals.GeneratorsTwice
 told_by_problem problem.NoMemory = None
 
-abbrev pub or_nothing : Option refusals.Refusal → List ℕ
+abbrev pub or_nothing : Option refusals.ProblemRefusal → List ℕ
 or_nothing None = []
 or_nothing (Some r) = stated_text r
 

@@ -1,8 +1,8 @@
 //! What stands in a line behind its command word.
 
 ghost use Rattle.std.specs.Prelude.{◌≡◌, ◌≤◌, ◌<◌, length, IfOk, IfSome};
-ghost use Rattle.alb_mono.specs.Letters.{alphabet};
-ghost use Rattle.alb_script.specs.Asked.{dense, place_at, tokens_at, poly_at, number_at, degree_at, alone, asked_by, view, Gives, IsRead, HasRead};
+ghost use Rattle.alb_mono.specs.Tree.{alphabet};
+ghost use Rattle.alb_script.specs.Asked.{dense, place_at, tokens_at, poly_at, number_argument, degree_at, alone, asked_by, view, Gives, IsPolyOver, IsCommandOver};
 
 use crate::command::Command;
 use crate::error::{CommandError, of_lex, of_syntax};
@@ -64,7 +64,7 @@ fn poly_at(
     requires within { argument.now.at ≤ length argument.now.line.now }
     requires short { length argument.now.line.now ≤ 65536 }
     ensures value { Gives (λ f. f) result (poly_at field.now letters.now argument.now.at argument.now.line.now) }
-    ensures read { IfOk result (λ f. IsRead field.now (length letters.now) f) }
+    ensures read { IfOk result (λ f. IsPolyOver field.now (length letters.now) f) }
 {
     let list = tokens_at(alloc, argument)?;
     match read_poly(alloc, &list, argument.line.len() as u32 + 1, letters, field) {
@@ -74,11 +74,11 @@ fn poly_at(
 }
 
 // The one number that stands from a byte on.
-#[tactic(auto, unfolding(crate::specs::Asked::number_at))]
+#[tactic(auto, unfolding(crate::specs::Asked::number_argument))]
 fn number_at(alloc: Global, argument: &Argument) -> Result<u64, CommandError>
     requires within { argument.now.at ≤ length argument.now.line.now }
     requires short { length argument.now.line.now ≤ 65536 }
-    ensures { Gives (λ n. n) result (number_at argument.now.at argument.now.line.now) }
+    ensures { Gives (λ n. n) result (number_argument argument.now.at argument.now.line.now) }
 {
     let bad = CommandError::BadArgument {
         place: argument_place(argument),
@@ -129,12 +129,12 @@ fn alone(command: Command, argument: &Argument) -> Result<Command, CommandError>
 }
 
 // The identity from a byte on, over the letters a to z.
-#[tactic(auto, unfolding(alb_mono::specs::Letters::alphabet))]
+#[tactic(auto, unfolding(alb_mono::specs::Tree::alphabet))]
 fn identity_at(alloc: Global, field: &Field, argument: &Argument) -> Result<Poly, CommandError>
     requires within { argument.now.at ≤ length argument.now.line.now }
     requires short { length argument.now.line.now ≤ 65536 }
     ensures value { Gives (λ f. f) result (poly_at field.now alphabet argument.now.at argument.now.line.now) }
-    ensures read { IfOk result (λ f. IsRead field.now 26 f) }
+    ensures read { IfOk result (λ f. IsPolyOver field.now 26 f) }
 {
     poly_at(alloc, field, &Letters::all(), argument)
 }
@@ -152,7 +152,7 @@ pub fn asked_by(
     requires within { argument.now.at ≤ length argument.now.line.now }
     requires short { length argument.now.line.now ≤ 65536 }
     ensures value { Gives view result (asked_by total field.now letters.now word argument.now.at argument.now.line.now) }
-    ensures read { IfOk result (λ c. HasRead field.now (length letters.now) c) }
+    ensures read { IfOk result (λ c. IsCommandOver field.now (length letters.now) c) }
 {
     match word {
         Word::Field => Ok(Command::Field(number_at(alloc, argument)?)),

@@ -2,8 +2,7 @@
 
 ghost use Rattle.std.specs.Prelude.{◌≡◌, ◌≤◌, ◌<◌, length, position, IfErr, IfOk, IfSome, MatchResult};
 ghost use Rattle.alb_lex.specs.Lexing.{is_blank};
-ghost use Rattle.alb_script.specs.Words.{word_named};
-ghost use Rattle.alb_script.specs.Asked.{word_length, of_form, word_start, word_at, command_word, word_of, asked, view, or_error, Gives, HasRead, IsPlain};
+ghost use Rattle.alb_script.specs.Asked.{word_named, word_length, of_form, word_start, word_at, command_word, word_of, asked, view, or_error, Gives, IsCommandOver, IsPlain};
 
 use crate::argument::{Argument, asked_by, dense};
 use crate::command::Command;
@@ -113,7 +112,7 @@ fn command_of(
     requires short { length line.now ≤ 65536 }
     requires begins { word ≡ command_word place.form line.now }
     ensures exact { Gives view result (asked place.form place.built place.total field.now letters.now line.now) }
-    ensures read { IfOk result (λ c. HasRead field.now (length letters.now) c) }
+    ensures read { IfOk result (λ c. IsCommandOver field.now (length letters.now) c) }
 {
     let Some(start) = word_start(line) else {
         return Ok(Command::Blank);
@@ -147,7 +146,7 @@ pub fn read_line(
     // The command, or the first fault, is that of the line.
     ensures exact { Gives view (or_error result) (asked place.form place.built place.total field.now letters.now line.now) }
     // A polynomial is over the field and over the letters that the word asks for.
-    ensures read { IfOk result (λ c. HasRead field.now (length letters.now) c) }
+    ensures read { IfOk result (λ c. IsCommandOver field.now (length letters.now) c) }
     // No error tells want of memory inside another one.
     ensures told { IfErr result (λ bad. IsPlain bad.error) }
     // The word is the one that the line begins with.
@@ -187,7 +186,7 @@ pub fn read_command(
     // The command, or the first fault, is that of the line.
     ensures exact { Gives view result (asked form built total field.now letters.now line.now) }
     // A polynomial is over the field and over the letters that the word asks for.
-    ensures read { IfOk result (λ c. HasRead field.now (length letters.now) c) }
+    ensures read { IfOk result (λ c. IsCommandOver field.now (length letters.now) c) }
     // No error tells want of memory inside another one.
     ensures told { MatchResult result (λ c. Unit {0}) (λ e. IsPlain e) }
 {

@@ -1,10 +1,8 @@
 ghost use Rattle.std.specs.Prelude.{◌≡◌, IsTrue, codes, decimal, false};
 ghost use Rattle.alb_io.specs.Writes.{Writes};
-ghost use Rattle.alb_mono.specs.Mono.{tree};
-ghost use Rattle.alb_mono.specs.Tree.{are_below};
-ghost use Rattle.alb_mono.specs.Letters.{alphabet};
+ghost use Rattle.alb_mono.specs.Tree.{tree, are_below, alphabet};
 ghost use Rattle.alb_print.specs.Text.{mono_text};
-ghost use Rattle.alb_script.specs.Refusals.{line_of, lex_text, syntax_text, command_text, told_by_identity, told_by_problem, or_nothing, refusal_text, is_lex_memory, is_syntax_memory, is_command_memory, is_identity_memory, is_problem_memory, is_memory, IsOverAlphabet, IsProblemOverAlphabet, IsIdentityOverAlphabet};
+ghost use Rattle.alb_script.specs.Refusals.{line_with, lex_text, syntax_text, command_text, told_by_identity, told_by_problem, or_nothing, refusal_text, is_lex_memory, is_syntax_memory, is_command_memory, is_identity_memory, is_problem_memory, is_memory, IsOverAlphabet, IsProblemOverAlphabet, IsIdentityOverAlphabet};
 
 use crate::error::CommandError;
 use alb_io::{Sink, WriteFault, put_all};
@@ -28,7 +26,7 @@ pub enum Refusal {
 
 /// Writes a line of a text and a number that is not negative, in decimal.
 pub fn write_numbered<K: Sink>(sink: &mut K, front: &[u8], number: u64) -> Result<(), WriteFault>
-    ensures { Writes K.Sink sink.old sink.new (line_of front.now (decimal number)) result }
+    ensures { Writes K.Sink sink.old sink.new (line_with front.now (decimal number)) result }
 {
     put_all(sink, front)?;
     write_count(sink, number)?;
@@ -38,7 +36,7 @@ pub fn write_numbered<K: Sink>(sink: &mut K, front: &[u8], number: u64) -> Resul
 // Writes the line that names a term.
 fn write_term<K: Sink>(sink: &mut K, term: &Mono) -> Result<(), WriteFault>
     requires { IsTrue (are_below 26 (tree term.now)) }
-    ensures { Writes K.Sink sink.old sink.new (line_of (codes "refused 31: ") (mono_text alphabet false (tree term.now))) result }
+    ensures { Writes K.Sink sink.old sink.new (line_with (codes "refused 31: ") (mono_text alphabet false (tree term.now))) result }
 {
     put_all(sink, b"refused 31: ")?;
     write_over_alphabet(sink, term)?;
@@ -46,7 +44,7 @@ fn write_term<K: Sink>(sink: &mut K, term: &Mono) -> Result<(), WriteFault>
 }
 
 // Writes a monomial over the letters a to z.
-#[tactic(auto, unfolding(alb_mono::specs::Letters::alphabet))]
+#[tactic(auto, unfolding(alb_mono::specs::Tree::alphabet))]
 fn write_over_alphabet<K: Sink>(sink: &mut K, term: &Mono) -> Result<(), WriteFault>
     requires { IsTrue (are_below 26 (tree term.now)) }
     ensures { Writes K.Sink sink.old sink.new (mono_text alphabet false (tree term.now)) result }

@@ -1,5 +1,5 @@
 ghost use Rattle.std.specs.Prelude.{◌≡◌};
-ghost use Rattle.alb_script.specs.Words.{word_named, belongs, is_early, is_late};
+ghost use Rattle.alb_script.specs.Asked.{word_named, belongs, is_early, is_late};
 
 use crate::form::Form;
 use alb_lex::is_word;

@@ -5,7 +5,7 @@ use Rattle.std.specs.Prelude.{if◌then◌else◌}
 use Rattle.std.proofs.lemmas.List.{reverse-append}
 use Rattle.alb_mono.specs.Listing.{Each}
 use Rattle.alb_subst.specs.Columns.{IsDistinct}
-use Rattle.alb_table.specs.Grid.{same_pair}
+use Rattle.alb_table.specs.Table.{same_pair}
 
 each_there : (x y : ℕ × ℕ) (xs ys : List (ℕ × ℕ)) → Each (λ z. same_pair z y ≡ false) (xs ++ x ∷ ys) → same_pair x y ≡ false
 each_there x y [] ys h = h.0

@@ -15,7 +15,7 @@ use Rattle.gf_sums.specs.Sums.{Comb, coefficient, scale}
 use Rattle.gf_sums.proofs.Alike.{scale-alike, multiply-alike}
 use Rattle.alb_mono.specs.Listing.{Each}
 use Rattle.alb_mono.specs.Tree.{Tree, leaf, node, AreBelow, are_below}
-use Rattle.alb_poly.specs.Algebra.{evaluate, unit}
+use Rattle.alb_poly.specs.Textbook.{evaluate, unit}
 use Rattle.alb_poly.specs.Instance.{Form, IsMultilinear, IsMultilinearForm}
 use Rattle.alb_poly.specs.Poly.{Poly}
 use Rattle.alb_poly.specs.Terms.{term, terms}
@@ -25,15 +25,13 @@ use Rattle.alb_linear.proofs.LinearLemmas.{test_from_below}
 use Rattle.alb_rows.specs.Row.{Cells, comb, entry, AreSameVector}
 use Rattle.alb_rows.specs.Merge.{at_column}
 use Rattle.alb_rows.proofs.RowLemmas.{written_back}
-use Rattle.alb_table.specs.Grid.{same_pair}
-use Rattle.alb_table.specs.PartView.{PartView}
-use Rattle.alb_table.specs.Entry.{table_product}
-use Rattle.alb_table.specs.Value.{IsVector, vectors}
-use Rattle.alb_table.specs.Leading.{outer}
+use Rattle.alb_table.specs.Table.{same_pair, PartView, table_product}
+use Rattle.alb_table.specs.Value.{IsBasisRow, vectors}
+use Rattle.alb_table.specs.Right.{outer}
 use Rattle.alb_table.specs.Block.{image, spread}
 use Rattle.alb_table.proofs.ValueLemmas.{vector-alike, evaluate-below}
 use Rattle.alb_subst.specs.Columns.{pair_at}
-use Rattle.alb_subst.specs.Sums.{Adds, HasEntries, instance_row}
+use Rattle.alb_subst.specs.Sums.{AddsAtColumns, HasEntries, instance_row}
 use Rattle.alb_subst.proofs.SumLemmas.{adds_alike, adds_equal, adds_then, adds_none}
 
 abbrev pub pair : ℕ → ℕ → ℕ × ℕ
@@ -41,15 +39,15 @@ pair b c = (b, c)
 
 -- a product, by the values of its factors
 pub adds_product : (p : ℕ) (columns : List (ℕ × ℕ)) (old new : List ℕ) (x : ℕ) (prod : ℕ → ℕ → Comb ℕ) (v : ℕ → Comb ℕ) (l r : Tree) (f g : Comb ℕ) →
-    AreSameVector p f (evaluate prod v l) → AreSameVector p g (evaluate prod v r) → Adds p columns old new (scale x (outer pair f g)) →
-    Adds p columns old new (scale x (image pair prod v (node l r)))
+    AreSameVector p f (evaluate prod v l) → AreSameVector p g (evaluate prod v r) → AddsAtColumns p columns old new (scale x (outer pair f g)) →
+    AddsAtColumns p columns old new (scale x (image pair prod v (node l r)))
 adds_product p columns old new x prod v l r f g h k a =
     adds_alike p columns old new _ _ (scale-alike x (multiply-alike (λ b c. (1, pair b c) ∷ []) (vector-alike h) (vector-alike k))) a
 
 -- one more term
 pub adds_term : (p : ℕ) (columns : List (ℕ × ℕ)) (start old new : List ℕ) (h : Tree → Comb (ℕ × ℕ)) (ts : List Term) (k : ℕ) (t : Term) → k < length ts → t ≡ get_or ts k t →
-    Adds p columns start old (spread h (terms (take k ts))) → Adds p columns old new (scale (term t).0 (h (term t).1)) →
-    Adds p columns start new (spread h (terms (take (k + 1) ts)))
+    AddsAtColumns p columns start old (spread h (terms (take k ts))) → AddsAtColumns p columns old new (scale (term t).0 (h (term t).1)) →
+    AddsAtColumns p columns start new (spread h (terms (take (k + 1) ts)))
 adds_term p columns start old new h ts k t l e a b =
     let s : terms (take (k + 1) ts) ≡ terms (take k ts) ++ term t ∷ [] =
     ap terms (take_more ts k t l ∙ ap (λ x. take k ts ++ x ∷ []) (sym e)) ∙ map-append term (take k ts) (t ∷ []) in
@@ -63,7 +61,7 @@ adds_term p columns start old new h ts k t l e a b =
 abbrev pub unit_row : ℕ → Cells
 unit_row b = (b, 1) ∷ []
 
-unit_vector : (p n b : ℕ) → 1 < p → b < n → IsVector p n (unit_row b)
+unit_vector : (p n b : ℕ) → 1 < p → b < n → IsBasisRow p n (unit_row b)
 unit_vector p n b h l = record {
   row = record {
     row = record {
@@ -75,7 +73,7 @@ unit_vector p n b h l = record {
   below = All-cons (λ (cell : ℕ × ℕ). cell.0 < n) (b, 1) [] l (All-nil _);
 }
 
-pub unit_vectors : (p n : ℕ) (tuple : List ℕ) → 1 < p → Each (λ b. b < n) tuple → Each (IsVector p n) (map unit_row tuple)
+pub unit_vectors : (p n : ℕ) (tuple : List ℕ) → 1 < p → Each (λ b. b < n) tuple → Each (IsBasisRow p n) (map unit_row tuple)
 unit_vectors p n [] h l = tt
 unit_vectors p n (b ∷ tuple) h l = (unit_vector p n b h l.0, unit_vectors p n tuple h l.1)
 
@@ -98,8 +96,8 @@ terms-below f m = each-from (λ t. IsMultilinear f.degree t.1) (λ t. AreBelow f
 
 -- the sum over the terms is the row of the instance
 pub adds_instance : (p : ℕ) (columns : List (ℕ × ℕ)) (old new : List ℕ) (parts : List PartView) (f : Form) (tuple : List ℕ) (rows : List Cells) → IsMultilinearForm f →
-    length tuple ≡ f.degree → rows ≡ map unit_row tuple → Adds p columns old new (spread (image pair (table_product parts) (vectors rows)) f.terms) →
-    Adds p columns old new (instance_row parts f tuple)
+    length tuple ≡ f.degree → rows ≡ map unit_row tuple → AddsAtColumns p columns old new (spread (image pair (table_product parts) (vectors rows)) f.terms) →
+    AddsAtColumns p columns old new (instance_row parts f tuple)
 adds_instance p columns old new parts f tuple rows m l e a =
     adds_equal p columns old new _ _
     (spread-below (table_product parts) (vectors rows) (λ k. unit (slice_index_or tuple k 0)) f.degree f.terms
@@ -129,7 +127,7 @@ residue_known p f ts k t a e l i =
 -- ---- the row of the sums
 
 -- what was added to zeros is what the row has
-pub has_entries : (p : ℕ) (columns : List (ℕ × ℕ)) (new : List ℕ) (row : Cells) (f : Comb (ℕ × ℕ)) → Adds p columns (replicate (length columns) 0) new f →
+pub has_entries : (p : ℕ) (columns : List (ℕ × ℕ)) (new : List ℕ) (row : Cells) (f : Comb (ℕ × ℕ)) → AddsAtColumns p columns (replicate (length columns) 0) new f →
     ((j : ℕ) → IsSameMod p (entry row j) (slice_index new j)) → HasEntries p columns row f
 has_entries p columns new row f a h j l =
     h j ⊙ a.at j l ⊙ same (ap (λ n. n + coefficient same_pair f (pair_at columns j)) (get_or-replicate (length columns) j 0 0 l) ∙ omega arith)
@@ -159,8 +157,8 @@ cells_more sums old new k x l e h n j =
 -- ---- the loop over the terms
 
 -- nothing has been added to zeros
-pub adds_zeros : (p : ℕ) (columns : List (ℕ × ℕ)) (xs ys : List ℕ) → ys ≡ xs → Adds p columns xs ys []
-adds_zeros p columns xs ys e = subst (λ zs. Adds p columns xs zs []) (sym e) (adds_none p columns xs)
+pub adds_zeros : (p : ℕ) (columns : List (ℕ × ℕ)) (xs ys : List ℕ) → ys ≡ xs → AddsAtColumns p columns xs ys []
+adds_zeros p columns xs ys e = subst (λ zs. AddsAtColumns p columns xs zs []) (sym e) (adds_none p columns xs)
 
 pub zero_residues : (p n : ℕ) (ys : List ℕ) → 0 < p → ys ≡ replicate n 0 → All (λ y. y < p) ys
 zero_residues p n ys h e = subst (λ zs. All (λ y. y < p) zs) (sym e) (λ k d l. (let m : k < n = omega (arith, length-replicate {A = ℕ} n 0) in rw (get_or-replicate n k 0 d m) h))

@@ -6,8 +6,7 @@ use Rattle.std.proofs.lemmas.Bool.{cases_Bool}
 use Rattle.std.proofs.lemmas.Bool.Decides.{nat_tests}
 use Rattle.std.proofs.lemmas.List.{drop_more, append-nil, take-append-drop, map-append, get_or-take}
 use Rattle.std.proofs.lemmas.List.Concat.{flat_map-append}
-use Rattle.alb_mono.specs.Tree.{type_le}
-use Rattle.alb_mono.specs.Types.{type_minus}
+use Rattle.alb_mono.specs.Tree.{type_le, type_minus}
 use Rattle.alb_mono.specs.Listing.{IsIn}
 use Rattle.alb_subst.specs.declared.range.Range.{Range}
 use Rattle.alb_subst.specs.Ranges.{begins, tuples, piece, Heads, Next, Last, RisesFrom, AddsUp, in_range, range_at}

@@ -6,15 +6,12 @@ use Rattle.std.proofs.lemmas.Bool.Decides.{nat_tests}
 use Rattle.std.proofs.lemmas.List.{map-append, reverse-append}
 use Rattle.gf_sums.specs.Sums.{total}
 use Rattle.alb_mono.specs.Listing.{Each, Ascends}
-use Rattle.alb_mono.specs.Tree.{cmp_types}
-use Rattle.alb_mono.specs.Types.{rising, splits}
+use Rattle.alb_mono.specs.Tree.{cmp_types, rising, splits}
 use Rattle.alb_mono.proofs.ListingLemmas.{each-weaker, each-append, each-map, each-flat, each-always}
 use Rattle.alb_mono.proofs.TypeLemmas.{rising_more, rising_step}
 use Rattle.alb_mono.proofs.TypesListing.{splits-listing}
 use Rattle.alb_poly.specs.Poly.{list_eq}
-use Rattle.alb_table.specs.Grid.{same_pair, rectangle}
-use Rattle.alb_table.specs.PartView.{PartView, first_of, dim_of, elems}
-use Rattle.alb_table.specs.Entry.{products, products_of}
+use Rattle.alb_table.specs.Table.{same_pair, rectangle, PartView, first_of, dim_of, elems, products, products_of}
 use Rattle.alb_subst.specs.Columns.{IsDistinct}
 use Rattle.alb_subst.specs.Products.{split_size}
 use Rattle.alb_linear.proofs.IdentityLemmas.{list_eq-sound, list_eq-itself}

@@ -4,14 +4,12 @@ use Rattle.std.specs.Prelude.{nat_le}
 use Rattle.std.specs.declared.cmp.Ordering.TheVariants.{Less}
 use Rattle.std.proofs.lemmas.Bool.Decides.{nat_tests}
 use Rattle.alb_mono.specs.Listing.{Each, IsIn, Ascends}
-use Rattle.alb_mono.specs.Tree.{cmp_types, type_le}
+use Rattle.alb_mono.specs.Tree.{cmp_types, type_le, type_minus, types_of}
 use Rattle.std.proofs.lemmas.List.{map-append}
-use Rattle.alb_mono.specs.Types.{type_minus, types_of}
 use Rattle.alb_mono.proofs.TypeLemmas.{rising_step}
 use Rattle.alb_mono.proofs.Order.{cmp_types_total}
 use Rattle.alb_mono.proofs.ListingLemmas.{each-weaker, each-both, each-map, each-always, in-map}
-use Rattle.alb_table.specs.PartView.{PartView, first_of, dim_of, elems, type_at}
-use Rattle.alb_table.specs.Table.{Table, IsTable, types_to}
+use Rattle.alb_table.specs.Table.{PartView, first_of, dim_of, elems, type_at, Table, IsTable, types_to}
 use Rattle.alb_table.proofs.TypesTo.{IsTypeTo, types_to-each, types_to-all, types_to-ascends, apart}
 use Rattle.alb_table.proofs.RangeLemmas.{ats, InRange, number_in_range, type_of_range, range_within}
 use Rattle.alb_table.proofs.TableLemmas.{types_ascend, type_shape}

@@ -1,9 +1,8 @@
 -- Sums of pairs, kept as one residue for each column.
-use Rattle.std.proofs.Common.{◌≡◌, ℕ, zero, suc, ◌+◌, ◌*◌, ◌%◌, ◌<◌, ◌≤◌, ◌==◌, Bool, true, false, List, [], ◌∷◌, ◌++◌, length, take, get_or, set, sym, refl, ap, ◌∙◌, arith, inl, inr, ◌⊎◌, subst, append-nil, add_assoc}
+use Rattle.std.proofs.Common.{◌≡◌, ℕ, zero, suc, ◌+◌, ◌*◌, ◌%◌, ◌<◌, ◌≤◌, ◌==◌, Bool, true, false, List, [], ◌∷◌, ◌++◌, length, take, get_or, set, sym, refl, ap, ◌∙◌, arith, inl, inr, ◌⊎◌, subst, append-nil, add_assoc, get_or-set_other, get_or-set_same}
 use Rattle.alb_mono.proofs.Both.{both_tests}
 use Rattle.std.specs.Prelude.{not, nat_lt, Some, None, slice_index, position}
 use Rattle.std.specs.List.{flat_map, prefix_len, position_or_len}
-use Rattle.std.proofs.Common.{get_or-set_other, get_or-set_same}
 use Rattle.std.proofs.Math.Nat.{mul-add, mul_assoc}
 use Rattle.std.proofs.lemmas.Bool.{cases_Bool}
 use Rattle.std.proofs.lemmas.Bool.Decides.{nat_tests}
@@ -12,15 +11,15 @@ use Rattle.std.proofs.lemmas.List.Concat.{flat_map-append}
 use Rattle.std.proofs.lemmas.List.Quantifiers.{position-Some}
 use Rattle.gf_field.specs.Modular.{IsSameMod}
 use Rattle.gf_field.proofs.Mod.{same, ◌⊙◌, plus, times, of_mod}
-use Rattle.gf_sums.specs.Sums.{Comb, weigh, coefficient, scale, Tells}
+use Rattle.gf_sums.specs.Sums.{Comb, weigh, coefficient, scale, TellsApart}
 use Rattle.gf_sums.proofs.Totals.{total-append, weigh-append, weigh-scale, weigh-multiply, weigh-equal}
 use Rattle.gf_sums.proofs.Alike.{Alike, same-alike, equal, scales-alike}
 use Rattle.alb_mono.proofs.ListingLemmas.{each-at}
 use Rattle.alb_rows.specs.Row.{Cells, comb}
-use Rattle.alb_table.specs.Grid.{same_pair}
-use Rattle.alb_table.specs.Leading.{outer}
+use Rattle.alb_table.specs.Table.{same_pair}
+use Rattle.alb_table.specs.Right.{outer}
 use Rattle.alb_subst.specs.Columns.{IsDistinct, pair_at}
-use Rattle.alb_subst.specs.Sums.{Adds, pairs_with}
+use Rattle.alb_subst.specs.Sums.{AddsAtColumns, pairs_with}
 
 -- ---- pairs
 
@@ -33,7 +32,7 @@ pair-sound (a, b) (c, d) h =
 pair-itself : (x : ℕ × ℕ) → same_pair x x ≡ true
 pair-itself x = let e : (x.0 == x.0) ≡ true = grind (arith, nat_tests) in let f : (x.1 == x.1) ≡ true = grind (arith, nat_tests) in rw (e, f) refl
 
-pub pairs_tell : Tells same_pair
+pub pairs_tell : TellsApart same_pair
 pairs_tell = record { sound = pair-sound; whole = pair-itself }
 
 pub pair-turned : (x y : ℕ × ℕ) → same_pair x y ≡ false → same_pair y x ≡ false
@@ -97,10 +96,10 @@ no-column columns q j h l = elim (cases_Bool (nat_lt (position_or_len (λ z. sam
 -- ---- what is added
 
 module _ (p : ℕ) (columns : List (ℕ × ℕ)) where
-  pub adds_none : (xs : List ℕ) → Adds p columns xs xs []
+  pub adds_none : (xs : List ℕ) → AddsAtColumns p columns xs xs []
   adds_none xs = record { at = λ j l. same (omega arith) }
 
-  pub adds_then : (xs ys zs : List ℕ) (f g : Comb (ℕ × ℕ)) → Adds p columns xs ys f → Adds p columns ys zs g → Adds p columns xs zs (f ++ g)
+  pub adds_then : (xs ys zs : List ℕ) (f g : Comb (ℕ × ℕ)) → AddsAtColumns p columns xs ys f → AddsAtColumns p columns ys zs g → AddsAtColumns p columns xs zs (f ++ g)
   adds_then xs ys zs f g a b = record {
     at = λ j l.
         b.at j l ⊙ plus (a.at j l) (same refl)
@@ -108,19 +107,19 @@ module _ (p : ℕ) (columns : List (ℕ × ℕ)) where
         ∙ ap (λ n. slice_index xs j + n) (sym (total-append _ f g)));
   }
 
-  pub adds_alike : (xs ys : List ℕ) (f g : Comb (ℕ × ℕ)) → Alike p f g → Adds p columns xs ys f → Adds p columns xs ys g
+  pub adds_alike : (xs ys : List ℕ) (f g : Comb (ℕ × ℕ)) → Alike p f g → AddsAtColumns p columns xs ys f → AddsAtColumns p columns xs ys g
   adds_alike xs ys f g h a = record { at = λ j l. a.at j l ⊙ plus (same {a = slice_index xs j} refl) (same-alike same_pair pairs_tell h (pair_at columns j)) }
 
-  pub adds_equal : (xs ys : List ℕ) (f g : Comb (ℕ × ℕ)) → f ≡ g → Adds p columns xs ys f → Adds p columns xs ys g
-  adds_equal xs ys f g e a = subst (Adds p columns xs ys) e a
+  pub adds_equal : (xs ys : List ℕ) (f g : Comb (ℕ × ℕ)) → f ≡ g → AddsAtColumns p columns xs ys f → AddsAtColumns p columns xs ys g
+  adds_equal xs ys f g e a = subst (AddsAtColumns p columns xs ys) e a
 
   -- a pair that is no column
-  pub adds_left_out : (xs : List ℕ) (x : ℕ) (q : ℕ × ℕ) → position (λ z. same_pair q z) columns ≡ None → Adds p columns xs xs ((x, q) ∷ [])
+  pub adds_left_out : (xs : List ℕ) (x : ℕ) (q : ℕ × ℕ) → position (λ z. same_pair q z) columns ≡ None → AddsAtColumns p columns xs xs ((x, q) ∷ [])
   adds_left_out xs x q h = record { at = λ j l. rw (no-column columns q j h l) (same (omega arith)) }
 
   -- a pair that is one
   pub adds_at : (xs : List ℕ) (x k y : ℕ) (q : ℕ × ℕ) → IsDistinct columns → length xs ≡ length columns → position (λ z. same_pair q z) columns ≡ Some k →
-      y ≡ (slice_index xs k + x) % p → Adds p columns xs (set xs k y) ((x, q) ∷ [])
+      y ≡ (slice_index xs k + x) % p → AddsAtColumns p columns xs (set xs k y) ((x, q) ∷ [])
   adds_at xs x k y q d n h e = record {
     at = λ j l.
         let c = at-column columns q k j d h l in
@@ -184,8 +183,8 @@ one_alike : {p m n : ℕ} (q : ℕ × ℕ) → IsSameMod p m n → Alike p ((m, 
 one_alike q h = record { at = λ w. plus (times h (same {a = w q} refl)) (same {a = 0} refl) }
 
 pub adds_line : (p : ℕ) (columns : List (ℕ × ℕ)) (start old new : List ℕ) (x b : ℕ) (cells : Cells) (k m : ℕ) → k < length cells → m ≡ (x * (get_or cells k (0, 0)).1) % p →
-    Adds p columns start old (scale x (pairs_with b (take k cells))) → Adds p columns old new ((m, (b, (get_or cells k (0, 0)).0)) ∷ []) →
-    Adds p columns start new (scale x (pairs_with b (take (k + 1) cells)))
+    AddsAtColumns p columns start old (scale x (pairs_with b (take k cells))) → AddsAtColumns p columns old new ((m, (b, (get_or cells k (0, 0)).0)) ∷ []) →
+    AddsAtColumns p columns start new (scale x (pairs_with b (take (k + 1) cells)))
 adds_line p columns start old new x b cells k m l e a n =
     let q : ℕ × ℕ = (b, (get_or cells k (0, 0)).0) in
     let y : ℕ = x * (get_or cells k (0, 0)).1 in
@@ -194,8 +193,8 @@ adds_line p columns start old new x b cells k m l e a n =
     (adds_alike p columns old new ((m, q) ∷ []) ((y, q) ∷ []) (one_alike q (same e ⊙ of_mod y)) n))
 
 pub adds_lines : (p : ℕ) (columns : List (ℕ × ℕ)) (start old new : List ℕ) (x : ℕ) (right left : Cells) (k m : ℕ) → k < length left → m ≡ (x * (get_or left k (0, 0)).1) % p →
-    Adds p columns start old (lines x right (take k left)) → Adds p columns old new (scale m (pairs_with (get_or left k (0, 0)).0 right)) →
-    Adds p columns start new (lines x right (take (k + 1) left))
+    AddsAtColumns p columns start old (lines x right (take k left)) → AddsAtColumns p columns old new (scale m (pairs_with (get_or left k (0, 0)).0 right)) →
+    AddsAtColumns p columns start new (lines x right (take (k + 1) left))
 adds_lines p columns start old new x right left k m l e a n =
     let f : Comb (ℕ × ℕ) = pairs_with (get_or left k (0, 0)).0 right in
     let y : ℕ = x * (get_or left k (0, 0)).1 in
@@ -203,7 +202,7 @@ adds_lines p columns start old new x right left k m l e a n =
     (adds_then p columns start old new (lines x right (take k left)) (scale y f) a (adds_alike p columns old new (scale m f) (scale y f) (scales-alike f (same e ⊙ of_mod y)) n))
 
 pub adds_outer : (p : ℕ) (columns : List (ℕ × ℕ)) (start new : List ℕ) (x : ℕ) (left right items : Cells) (k : ℕ) → length items ≤ k → items ≡ left →
-    Adds p columns start new (lines x right (take k items)) → Adds p columns start new (scale x (outer (λ b c. (b, c)) (comb left) (comb right)))
+    AddsAtColumns p columns start new (lines x right (take k items)) → AddsAtColumns p columns start new (scale x (outer (λ b c. (b, c)) (comb left) (comb right)))
 adds_outer p columns start new x left right items k l e a =
     adds_alike p columns start new (lines x right left) _ (lines-outer x left right)
     (adds_equal p columns start new _ _ (ap (lines x right) (take_all k items l ∙ e)) a)

@@ -5,13 +5,11 @@ use Rattle.std.specs.Prelude.{nat_le}
 use Rattle.std.proofs.lemmas.Bool.Decides.{nat_tests}
 use Rattle.alb_table.proofs.PartLemmas.{sum-cons}
 use Rattle.alb_mono.specs.Listing.{Each}
-use Rattle.alb_mono.specs.Tree.{type_le}
-use Rattle.alb_mono.specs.Types.{type_minus}
+use Rattle.alb_mono.specs.Tree.{type_le, type_minus}
 use Rattle.alb_mono.proofs.ListingLemmas.{each-weaker, each-member}
 use Rattle.alb_mono.proofs.TypeLemmas.{length-type_plus}
 use Rattle.alb_mono.proofs.TypesListing.{plus-minus, length-minus, minus-plus, le-plus}
-use Rattle.alb_table.specs.PartView.{elems, type_at}
-use Rattle.alb_table.specs.Table.{Table, IsTable}
+use Rattle.alb_table.specs.Table.{elems, type_at, Table, IsTable}
 use Rattle.alb_table.proofs.TableLemmas.{type_shape}
 use Rattle.alb_subst.specs.declared.range.Range.{Range}
 use Rattle.alb_subst.specs.Ranges.{tuples, AddsUp, range_of, ranges, to_come}

@@ -3,8 +3,7 @@ use Rattle.std.proofs.Common.{◌≡◌, ℕ, zero, suc, ◌+◌, ◌<◌, ◌�
 use Rattle.std.specs.List.{flat_map}
 use Rattle.std.proofs.lemmas.List.{drop_more, take_all, take-append-drop}
 use Rattle.std.proofs.lemmas.List.Concat.{flat_map-append}
-use Rattle.alb_mono.specs.Tree.{type_le}
-use Rattle.alb_mono.specs.Types.{type_minus}
+use Rattle.alb_mono.specs.Tree.{type_le, type_minus}
 use Rattle.alb_subst.specs.declared.range.Range.{Range}
 use Rattle.alb_subst.specs.Ranges.{begins, tuples, piece, Heads}
 

@@ -6,8 +6,7 @@ use Rattle.std.specs.Cmp.Lexicographic.{slice_cmp}
 use Rattle.std.specs.declared.cmp.Ordering.TheVariants.{Less, Equal}
 use Rattle.std.proofs.lemmas.Bool.{cases_Bool}
 use Rattle.std.proofs.lemmas.Bool.Decides.{nat_tests}
-use Rattle.alb_mono.specs.Tree.{type_le}
-use Rattle.alb_mono.specs.Types.{type_minus}
+use Rattle.alb_mono.specs.Tree.{type_le, type_minus}
 use Rattle.alb_mono.specs.Listing.{Each, IsIn, Ascends, IsListing}
 use Rattle.alb_mono.proofs.ListingLemmas.{each-weaker, each-append, each-map, each-always, in-map, in-flat, in-left, in-right, ascends-append, ascends-map}
 use Rattle.alb_subst.specs.declared.range.Range.{Range}

@@ -1,9 +1,7 @@
 -- The columns of a type: its products of two basis elements.
 use Rattle.std.specs.Prelude.{◌≡◌, ℕ, ◌<◌, ◌≤◌, false, List, [], ◌∷◌, length, reverse, slice_index_or, Result, Ok, Err}
 use Rattle.alb_mono.specs.Listing.{Each}
-use Rattle.alb_table.specs.Grid.{same_pair}
-use Rattle.alb_table.specs.PartView.{PartView}
-use Rattle.alb_table.specs.Entry.{products}
+use Rattle.alb_table.specs.Table.{same_pair, PartView, products}
 use Rattle.alb_subst.specs.declared.error.ColumnsStop.{ColumnsStop}
 use Rattle.alb_subst.specs.declared.error.ColumnsStop.TheVariants.{TooWide, NoMemory}
 
@@ -22,7 +20,7 @@ abbrev pub pair_at : List (ℕ × ℕ) → ℕ → ℕ × ℕ
 pair_at columns j = slice_index_or columns j (0, 0)
 
 -- what opening the columns of the type `t` answers: its products from the greatest to the least, or that there are too many
-abbrev pub Opens : List PartView → List ℕ → Result (List (ℕ × ℕ)) ColumnsStop → Type 0
-Opens parts t (Ok columns) = (columns ≡ reverse (products parts t)) × (length columns ≤ 4096)
-Opens parts t (Err (TooWide n)) = (n ≡ length (products parts t)) × (4096 < n)
-Opens parts t (Err NoMemory) = Unit {0}
+abbrev pub OpensColumns : List PartView → List ℕ → Result (List (ℕ × ℕ)) ColumnsStop → Type 0
+OpensColumns parts t (Ok columns) = (columns ≡ reverse (products parts t)) × (length columns ≤ 4096)
+OpensColumns parts t (Err (TooWide n)) = (n ≡ length (products parts t)) × (4096 < n)
+OpensColumns parts t (Err NoMemory) = Unit {0}

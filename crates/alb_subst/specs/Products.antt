@@ -1,6 +1,6 @@
 -- The number of the products of a type.
 use Rattle.std.specs.Prelude.{ℕ, ◌*◌, List}
-use Rattle.alb_table.specs.PartView.{PartView, dim_of}
+use Rattle.alb_table.specs.Table.{PartView, dim_of}
 
 -- how many products a left and a right type have
 abbrev pub split_size : List PartView → List ℕ × List ℕ → ℕ

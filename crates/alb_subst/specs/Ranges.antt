@@ -2,12 +2,10 @@
 -- `Instances` keeps.
 use Rattle.std.specs.Prelude.{◌≡◌, ℕ, zero, suc, ◌+◌, ◌-◌, ◌<◌, ◌≤◌, ◌==◌, nat_le, nat_lt, Bool, true, ◌&&◌, ◌^◌, if◌then◌else◌, List, [], ◌∷◌, ◌++◌, map, sum, length}
 use Rattle.std.specs.List.{flat_map}
-use Rattle.alb_mono.specs.Tree.{type_le}
+use Rattle.alb_mono.specs.Tree.{type_le, rising, type_minus}
 use Rattle.alb_mono.specs.Listing.{Each, IsIn}
-use Rattle.alb_mono.specs.Types.{rising, type_minus}
 use Rattle.alb_poly.specs.Poly.{list_eq}
-use Rattle.alb_table.specs.PartView.{PartView, first_of, dim_of}
-use Rattle.alb_table.specs.Table.{types_to}
+use Rattle.alb_table.specs.Table.{PartView, first_of, dim_of, types_to}
 use Rattle.alb_subst.specs.declared.range.Range.{Range}
 
 -- each of c numbers from f on before each of the lists

@@ -4,9 +4,7 @@ use Rattle.gf_field.specs.Modular.{IsSameMod}
 use Rattle.gf_sums.specs.Sums.{Comb, coefficient}
 use Rattle.alb_poly.specs.Instance.{Form}
 use Rattle.alb_rows.specs.Row.{Cells, entry}
-use Rattle.alb_table.specs.Grid.{same_pair}
-use Rattle.alb_table.specs.PartView.{PartView}
-use Rattle.alb_table.specs.Entry.{table_product}
+use Rattle.alb_table.specs.Table.{same_pair, PartView, table_product}
 use Rattle.alb_table.specs.Block.{form_row}
 use Rattle.alb_subst.specs.Columns.{pair_at}
 
@@ -19,7 +17,7 @@ abbrev pub HasEntries : ℕ → List (ℕ × ℕ) → Cells → Comb (ℕ × ℕ
 HasEntries p columns row f = (j : ℕ) → j < length columns → IsSameMod p (entry row j) (coefficient same_pair f (pair_at columns j))
 
 -- at each column the coefficient of the column's pair has been added
-pub record Adds (p : ℕ) (columns : List (ℕ × ℕ)) (old new : List ℕ) (f : Comb (ℕ × ℕ)) : Type 0 where
+pub record AddsAtColumns (p : ℕ) (columns : List (ℕ × ℕ)) (old new : List ℕ) (f : Comb (ℕ × ℕ)) : Type 0 where
   pub at : (j : ℕ) → j < length columns → IsSameMod p (slice_index new j) (slice_index old j + coefficient same_pair f (pair_at columns j))
 
 -- the pairs of b with the columns of a row

@@ -5,7 +5,7 @@ use Rattle.std.specs.Cmp.Lexicographic.{slice_cmp}
 use Rattle.std.specs.declared.cmp.Ordering.{Ordering}
 use Rattle.alb_mono.specs.Listing.{IsListing}
 use Rattle.alb_mono.specs.Tree.{type_plus}
-use Rattle.alb_table.specs.PartView.{PartView, elems, type_at}
+use Rattle.alb_table.specs.Table.{PartView, elems, type_at}
 
 -- the sum of the types of basis elements, over `gens` generators
 abbrev pub type_sum : List PartView → ℕ → List ℕ → List ℕ

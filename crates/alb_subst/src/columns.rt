@@ -1,6 +1,6 @@
 ghost use Rattle.std.specs.Prelude.{◌≡◌, ◌<◌, ◌≤◌, length, reverse, IfOk, Some, slice_get, position};
-ghost use Rattle.alb_table.specs.Grid.{same_pair};
-ghost use Rattle.alb_subst.specs.Columns.{IsDistinct, Opens};
+ghost use Rattle.alb_table.specs.Table.{same_pair};
+ghost use Rattle.alb_subst.specs.Columns.{IsDistinct, OpensColumns};
 
 use crate::error::ColumnsStop;
 use crate::products::{all_products, count_products};
@@ -48,7 +48,7 @@ fn numbered(alloc: Global, pairs: Vec<(u32, u32)>) -> Result<Columns, NoMemory>
 impl Columns {
     /// The products of the type `t` over a table. It is refused where there are more than 4,096, before any is made.
     pub fn open(alloc: Global, tables: &Tables, t: &Multi) -> Result<Columns, ColumnsStop>
-        ensures { Opens tables.now.parts t.now result }
+        ensures { OpensColumns tables.now.parts t.now result }
     {
         prove!(tables.degree() > 0);
         let pairs = splits(alloc, t)?;

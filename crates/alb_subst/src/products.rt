@@ -1,10 +1,8 @@
 //! The products of a type, as pairs of basis numbers.
 ghost use Rattle.std.specs.Prelude.{◌≡◌, ℕ, ◌+◌, ◌*◌, ◌<◌, ◌^◌, ◌++◌, length, map, IfOk, OnOk};
 ghost use Rattle.gf_sums.specs.Sums.{total};
-ghost use Rattle.alb_mono.specs.Types.{rising};
-ghost use Rattle.alb_table.specs.Grid.{rectangle};
-ghost use Rattle.alb_table.specs.PartView.{elems};
-ghost use Rattle.alb_table.specs.Entry.{products_of};
+ghost use Rattle.alb_mono.specs.Tree.{rising};
+ghost use Rattle.alb_table.specs.Table.{rectangle, elems, products_of};
 ghost use Rattle.alb_subst.specs.Products.{split_size};
 
 use alb_mono::{Multi, NoMemory};

@@ -1,5 +1,5 @@
 ghost use Rattle.std.specs.Prelude.{◌≡◌, ◌++◌, ◌<◌, ◌^◌, length, map, IfOk, OnOk};
-ghost use Rattle.alb_mono.specs.Types.{types_of};
+ghost use Rattle.alb_mono.specs.Tree.{types_of};
 ghost use Rattle.alb_subst.specs.Ranges.{range_of, ranges};
 
 use alb_mono::{Multi, NoMemory, types_of_degree};

@@ -2,17 +2,15 @@
 ghost use Rattle.std.specs.Prelude.{◌≡◌, ℕ, ◌<◌, ◌≤◌, [], ◌∷◌, All, IsTrue, IfOk, OnOk, length, map, replicate, slice_index};
 ghost use Rattle.gf_sums.specs.Sums.{scale};
 ghost use Rattle.alb_mono.specs.Listing.{Each};
-ghost use Rattle.alb_mono.specs.Mono.{tree};
-ghost use Rattle.alb_mono.specs.Tree.{are_below};
-ghost use Rattle.alb_poly.specs.Rules.{form};
+ghost use Rattle.alb_mono.specs.Tree.{tree, are_below};
+ghost use Rattle.alb_poly.specs.Consequence.{form};
 ghost use Rattle.alb_linear.specs.Identity.{IsLinearized};
-ghost use Rattle.alb_rows.specs.Row.{entry, AreResidues, ColumnsBelow, IsRow, IsRowOver};
+ghost use Rattle.alb_rows.specs.Row.{entry, AreCellResidues, ColumnsBelow, IsRow, IsRowOver};
 ghost use Rattle.alb_rows.specs.Merge.{AddsAt};
-ghost use Rattle.alb_table.specs.PartView.{elems};
-ghost use Rattle.alb_table.specs.Entry.{table_product};
-ghost use Rattle.alb_table.specs.Value.{IsVector, vectors};
+ghost use Rattle.alb_table.specs.Table.{elems, table_product};
+ghost use Rattle.alb_table.specs.Value.{IsBasisRow, vectors};
 ghost use Rattle.alb_table.specs.Block.{image};
-ghost use Rattle.alb_subst.specs.Sums.{Adds, HasEntries, instance_row};
+ghost use Rattle.alb_subst.specs.Sums.{AddsAtColumns, HasEntries, instance_row};
 
 use crate::columns::Columns;
 use crate::sums::Space;
@@ -45,11 +43,11 @@ fn add_term(
 ) -> Result<(), NoMemory>
     requires len { length sums.old ≡ length columns.now }
     requires residues { All (λ y. y < tables.now.p) sums.old }
-    requires vectors { Each (IsVector tables.now.p (length (elems tables.now.parts))) rows.now }
+    requires vectors { Each (IsBasisRow tables.now.p (length (elems tables.now.parts))) rows.now }
     requires positions { IsTrue (are_below (length rows.now) (tree t.now.mono)) }
     requires residue { t.now.coef < tables.now.p }
     ensures residues { All (λ y. y < tables.now.p) sums.new }
-    ensures adds { OnOk result (Adds tables.now.p columns.now sums.old sums.new (scale t.now.coef (image (λ b c. (b, c)) (table_product tables.now.parts) (vectors rows.now) (tree t.now.mono)))) }
+    ensures adds { OnOk result (AddsAtColumns tables.now.p columns.now sums.old sums.new (scale t.now.coef (image (λ b c. (b, c)) (table_product tables.now.parts) (vectors rows.now) (tree t.now.mono)))) }
 {
     match &t.mono {
         Mono::Gen(_) => Ok(()),
@@ -80,7 +78,7 @@ fn instance_sums(
     requires numbers { All (λ b. b < length (elems tables.now.parts)) tuple.now }
     ensures len { IfOk result (λ v. length v.items ≡ length columns.now) }
     ensures residues { IfOk result (λ v. All (λ y. y < tables.now.p) v.items) }
-    ensures adds { IfOk result (λ v. Adds tables.now.p columns.now (replicate (length columns.now) 0) v.items (instance_row tables.now.parts (form f.now) tuple.now)) }
+    ensures adds { IfOk result (λ v. AddsAtColumns tables.now.p columns.now (replicate (length columns.now) 0) v.items (instance_row tables.now.parts (form f.now) tuple.now)) }
 {
     prove!(tables.field().p() > 1);
     let rows = units(alloc, tuple)?;
@@ -97,7 +95,7 @@ fn push_cell(cells: &mut Vec<(u32, Residue)>, column: u32, value: Residue) -> Re
     requires below { ColumnsBelow column cells.old.items }
     ensures row { IsRow cells.new.items }
     ensures adds { OnOk result (AddsAt cells.old.items cells.new.items column value) }
-    ensures residues { (p : ℕ) → value < p → AreResidues p cells.old.items → AreResidues p cells.new.items }
+    ensures residues { (p : ℕ) → value < p → AreCellResidues p cells.old.items → AreCellResidues p cells.new.items }
 {
     if value != 0 {
         cells.push((column, value))?;
@@ -111,7 +109,7 @@ fn cells_of(alloc: Global, sums: &[Residue]) -> Result<Vec<(u32, Residue)>, NoMe
     ensures row { IfOk result (λ v. IsRow v.items) }
     ensures entries { IfOk result (λ v. (j : ℕ) → entry v.items j ≡ slice_index sums.now j) }
     ensures columns { IfOk result (λ v. ColumnsBelow (length sums.now) v.items) }
-    ensures residues { (p : ℕ) → All (λ y. y < p) sums.now → IfOk result (λ v. AreResidues p v.items) }
+    ensures residues { (p : ℕ) → All (λ y. y < p) sums.now → IfOk result (λ v. AreCellResidues p v.items) }
 {
     let mut cells = Vec::new(alloc);
     for k in 0..sums.len() {

@@ -1,9 +1,9 @@
 //! Sums of pairs of basis elements, kept as one residue for each column.
 ghost use Rattle.std.specs.Prelude.{◌≡◌, ◌<◌, [], ◌∷◌, All, length};
 ghost use Rattle.gf_sums.specs.Sums.{scale};
-ghost use Rattle.alb_rows.specs.Row.{comb, AreResidues};
-ghost use Rattle.alb_table.specs.Leading.{outer};
-ghost use Rattle.alb_subst.specs.Sums.{Adds, pairs_with};
+ghost use Rattle.alb_rows.specs.Row.{comb, AreCellResidues};
+ghost use Rattle.alb_table.specs.Right.{outer};
+ghost use Rattle.alb_subst.specs.Sums.{AddsAtColumns, pairs_with};
 
 use crate::columns::Columns;
 use alb_rows::Row;
@@ -23,7 +23,7 @@ impl Space<'_> {
         requires residues { All (λ y. y < self.now.field.now) sums.old }
         requires residue { x < self.now.field.now }
         ensures residues { All (λ y. y < self.now.field.now) sums.new }
-        ensures adds { Adds self.now.field.now self.now.columns.now sums.old sums.new ((x, (b, c)) ∷ []) }
+        ensures adds { AddsAtColumns self.now.field.now self.now.columns.now sums.old sums.new ((x, (b, c)) ∷ []) }
     {
         match self.columns.number(b, c) {
             None => {}
@@ -39,9 +39,9 @@ impl Space<'_> {
         requires len { length sums.old ≡ length self.now.columns.now }
         requires residues { All (λ y. y < self.now.field.now) sums.old }
         requires residue { x < self.now.field.now }
-        requires right { AreResidues self.now.field.now right.now }
+        requires right { AreCellResidues self.now.field.now right.now }
         ensures residues { All (λ y. y < self.now.field.now) sums.new }
-        ensures adds { Adds self.now.field.now self.now.columns.now sums.old sums.new (scale x (pairs_with b right.now)) }
+        ensures adds { AddsAtColumns self.now.field.now self.now.columns.now sums.old sums.new (scale x (pairs_with b right.now)) }
     {
         for cell in right.cells() {
             self.add_pair(sums, self.field.mul(x, cell.1), b, cell.0);
@@ -53,10 +53,10 @@ impl Space<'_> {
         requires len { length sums.old ≡ length self.now.columns.now }
         requires residues { All (λ y. y < self.now.field.now) sums.old }
         requires residue { x < self.now.field.now }
-        requires left { AreResidues self.now.field.now left.now }
-        requires right { AreResidues self.now.field.now right.now }
+        requires left { AreCellResidues self.now.field.now left.now }
+        requires right { AreCellResidues self.now.field.now right.now }
         ensures residues { All (λ y. y < self.now.field.now) sums.new }
-        ensures adds { Adds self.now.field.now self.now.columns.now sums.old sums.new (scale x (outer (λ b c. (b, c)) (comb left.now) (comb right.now))) }
+        ensures adds { AddsAtColumns self.now.field.now self.now.columns.now sums.old sums.new (scale x (outer (λ b c. (b, c)) (comb left.now) (comb right.now))) }
     {
         for cell in left.cells() {
             self.add_line(sums, self.field.mul(x, cell.1), cell.0, right);

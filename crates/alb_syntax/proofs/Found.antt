@@ -8,15 +8,13 @@ use Rattle.alb_mono.specs.Tree.{degree}
 use Rattle.alb_lex.specs.declared.token.Token.{Token}
 use Rattle.alb_lex.specs.declared.token.TokenKind.{TokenKind}
 use Rattle.alb_lex.specs.declared.token.TokenKind.TheVariants as kinds
-use Rattle.alb_poly.specs.Poly.{Poly, generator, product}
-use Rattle.alb_poly.specs.Normal.{normal}
+use Rattle.alb_poly.specs.Poly.{Poly, generator, product, normal}
 use Rattle.gf_sums.specs.Sums.{scale}
 use Rattle.alb_syntax.specs.declared.error.SyntaxError.{SyntaxError}
 use Rattle.alb_syntax.specs.declared.error.SyntaxError.TheVariants as errors
 use Rattle.alb_lex.specs.Results.{◌>>=◌}
 use Rattle.alb_syntax.specs.Gives.{Gives}
-use Rattle.alb_syntax.specs.Operations.{within, sum, difference, times, multiple, associator, commutator, jordan, raised}
-use Rattle.alb_syntax.specs.Reading.{Setting, Reader, ReaderOf, next, after, place, must, must_or, unexpected, is_plus, is_sign, is_star, is_comma, is_close, is_square_close, begins_atom, turns, each, letter, atom_at, atom, exponent_at, exponent, is_caret, power, factor, juxt, star, jprod, numbered, term_at, term, first_at, first, signed, poly, two_more, round, square, bracketed, ended, denoted}
+use Rattle.alb_syntax.specs.Reading.{limited, sum, difference, times, multiple, associator, commutator, jordan, raised, Setting, PolyReader, ReaderOf, next, after, place, must, must_or, unexpected, is_plus, is_sign, is_star, is_comma, is_close, is_square_close, begins_atom, turns, each, letter, atom_at, atom, exponent_at, exponent, is_caret, power, factor, juxt, star, jprod, multiple_from, term_at, term, first_at, first, signed, poly, two_more, round, square, bracketed, ended, denoted}
 use Rattle.alb_syntax.specs.Grammar.{Class, Denotes, Makes, Atom, Power, Juxt, Jordan, Term, Sum}
 use Rattle.alb_syntax.specs.Grammar as grammar
 use Rattle.alb_mono.proofs.Both.{both_tests}
@@ -30,8 +28,8 @@ two_tests true c d e d' e' f h q = absurd cc
 two_tests false true d e d' e' f h q = absurd cc
 two_tests false false d e d' e' f h q = q
 
-within-any : (a b : ℕ) (f h : Poly) → within a f ≡ Ok h → within b f ≡ Ok h
-unfolding within
+within-any : (a b : ℕ) (f h : Poly) → limited a f ≡ Ok h → limited b f ≡ Ok h
+unfolding limited
 within-any a b f h q = two_tests (list_any (λ t. nat_lt 64 (degree t.1)) f) (nat_lt 65536 (length f)) (errors.TooHigh a) (errors.TooManyTerms a) (errors.TooHigh b) (errors.TooManyTerms b) f h q
 
 module _ (p a b : ℕ) where
@@ -121,11 +119,11 @@ pub record Found (s : Setting) (c : Class) (n : ℕ) (ts : List Token) (x : Poly
   pub whole : ts ≡ front ++ x.1
   pub denotes : Denotes s.field s.letters c n front x.0
 
-abbrev Finds : Setting → Class → ℕ → Reader → Type 0
+abbrev Finds : Setting → Class → ℕ → PolyReader → Type 0
 Finds s c n read = (ts : List Token) (x : Poly × List Token) → read ts ≡ Ok x → Found s c n ts x
 
 -- a bracket is read where one opens
-abbrev FindsOpen : Setting → ℕ → Reader → Type 0
+abbrev FindsOpen : Setting → ℕ → PolyReader → Type 0
 FindsOpen s n bracket = (t : Token) (ts : List Token) (x : Poly × List Token) → (t.kind ≡ kinds.Open) ⊎ (t.kind ≡ kinds.SquareOpen) → bracket (t ∷ ts) ≡ Ok x → Found s Atom n (t ∷ ts) x
 
 found_at : (s : Setting) (c : Class) (n : ℕ) (ts us : List Token) (f : Poly) (front : List Token) → ts ≡ front ++ us → Denotes s.field s.letters c n front f → (x : Poly × List Token) → (f, us) ≡ x → Found s c n ts x
@@ -156,7 +154,7 @@ turns-found {V} P more part step (suc n) us f ts x d e = elim (cases_Bool (more 
       subst (λ (y : V × List Token). (vs : List Token) × (ts ≡ vs ++ y.1) × P (us ++ vs) y.0) q ([], refl, subst (λ w. P w f) (sym (append-nil us)) d))
 ]
 
-module _ (s : Setting) (n : ℕ) (bracket : Reader) (opens : FindsOpen s n bracket) where
+module _ (s : Setting) (n : ℕ) (bracket : PolyReader) (opens : FindsOpen s n bracket) where
   letter-found : (o : Option ℕ) (b : ℕ) (t : Token) (ts : List Token) (x : Poly × List Token) → t.kind ≡ kinds.Letter b → position (λ y. y == b) s.letters ≡ o → letter s o (t ∷ ts) ≡ Ok x → Found s Atom n (t ∷ ts) x
   letter-found (Some k) b t ts x e p h = found_at s Atom n (t ∷ ts) ts (generator k) (t ∷ []) refl (grammar.a_letter n k b t e p) x (ok_is (generator k, ts) x h)
   letter-found None b t ts x e p h = absurd cc
@@ -186,7 +184,7 @@ either_way : {A : Type 0} (b : Bool) (r q : Result A SyntaxError) (P : A → Typ
 either_way true r q P h k x e = h refl x e
 either_way false r q P h k x e = k refl x e
 
-module _ (s : Setting) (n : ℕ) (bracket : Reader) (opens : FindsOpen s n bracket) where
+module _ (s : Setting) (n : ℕ) (bracket : PolyReader) (opens : FindsOpen s n bracket) where
   -- behind an atom
   power_behind : (front : List Token) (f : Poly) (us ts : List Token) (x : Poly × List Token) → ts ≡ front ++ us → Denotes s.field s.letters Atom n front f
       → cond (is_caret (next us)) (exponent s (place s us) f (after us)) (Ok (f, us)) ≡ Ok x → Found s Power n ts x
@@ -246,8 +244,8 @@ module _ (s : Setting) (n : ℕ) (bracket : Reader) (opens : FindsOpen s n brack
   product_found : (ts : List Token) (x : Poly × List Token) → jprod s bracket ts ≡ Ok x → Found s Term n ts x
   product_found ts x e = let a = jprod-found ts x e in record { front = a.front; whole = a.whole; denotes = grammar.a_product n a.front x.0 a.denotes }
 
-  numbered-found : (m : ℕ) (t : Token) (ts : List Token) (x : Poly × List Token) → t.kind ≡ kinds.Number m → numbered s bracket m ts ≡ Ok x → Found s Term n (t ∷ ts) x
-  unfolding numbered
+  numbered-found : (m : ℕ) (t : Token) (ts : List Token) (x : Poly × List Token) → t.kind ≡ kinds.Number m → multiple_from s bracket m ts ≡ Ok x → Found s Term n (t ∷ ts) x
+  unfolding multiple_from
   numbered-found m t ts x k e =
       either_way (begins_atom (next ts)) (jprod s bracket ts >>= λ y. Ok (multiple s.field m y.0, y.1)) (cond (m == 0) (Ok ([], ts)) (unexpected s ts)) (λ z. Found s Term n (t ∷ ts) z)
       (λ c z h. let w = bind_ok (jprod s bracket ts) (λ y. Ok (multiple s.field m y.0, y.1)) z h in
@@ -320,7 +318,7 @@ record SumAnd (s : Setting) (n : ℕ) (is : Option TokenKind → Bool) (ts : Lis
 comma_next : (s : Setting) (ts : List Token) → is_comma (next ts) ≡ true → must s is_comma ts ≡ Ok (after ts)
 comma_next s ts h = rw h refl
 
-module _ (s : Setting) (n : ℕ) (inside : Reader) (finds : Finds s Sum n inside) (o : Token) where
+module _ (s : Setting) (n : ℕ) (inside : PolyReader) (finds : Finds s Sum n inside) (o : Token) where
   sum_and : (is : Option TokenKind → Bool) (ts us : List Token) (x : Poly × List Token) → is None ≡ false → inside ts ≡ Ok x → must s is x.1 ≡ Ok us → SumAnd s n is ts x.0 us
   sum_and is ts us x none e m =
       let a = finds ts x e in

@@ -10,14 +10,13 @@ use Rattle.alb_lex.specs.declared.token.Token.{Token}
 use Rattle.alb_mono.specs.Listing.{Each}
 use Rattle.alb_mono.specs.Tree.{degree, are_below}
 use Rattle.alb_mono.proofs.ListingLemmas.{each-append, each-weaker}
-use Rattle.alb_poly.specs.Poly.{Poly, product}
-use Rattle.alb_poly.specs.Normal.{normal}
+use Rattle.alb_poly.specs.Poly.{Poly, product, normal}
 use Rattle.alb_poly.proofs.NormalLemmas.{normal-each}
 use Rattle.alb_poly.proofs.Products.{product-each}
 use Rattle.alb_syntax.specs.declared.error.SyntaxError.{SyntaxError}
 use Rattle.alb_syntax.specs.declared.error.SyntaxError.TheVariants as errors
 use Rattle.alb_lex.specs.Results.{◌>>=◌}
-use Rattle.alb_syntax.specs.Operations.{within, sum, difference, times, multiple, associator, commutator, jordan, raised}
+use Rattle.alb_syntax.specs.Reading.{limited, sum, difference, times, multiple, associator, commutator, jordan, raised}
 use Rattle.alb_syntax.specs.Grammar.{Class, Denotes, Atom, Power, Juxt, Jordan, Term, Sum}
 use Rattle.alb_syntax.specs.Grammar as grammar
 use Rattle.alb_lex.proofs.Binds.{bind_ok, ok_is}
@@ -26,8 +25,8 @@ use Rattle.alb_lex.proofs.Binds.{bind_ok, ok_is}
 abbrev Knows : ℕ → Poly → Type 0
 Knows n f = Each (λ t. are_below n t.1 ≡ true) f
 
-within-is : (place : ℕ) (f h : Poly) → within place f ≡ Ok h → f ≡ h
-unfolding within
+within-is : (place : ℕ) (f h : Poly) → limited place f ≡ Ok h → f ≡ h
+unfolding limited
 within-is place f h e = tests (list_any (λ t. nat_lt 64 (degree t.1)) f) (nat_lt 65536 (length f)) e
   where
     tests : (b c : Bool) → (cond b (Err (errors.TooHigh place)) (cond c (Err (errors.TooManyTerms place)) (Ok f))) ≡ Ok h → f ≡ h
@@ -36,7 +35,7 @@ within-is place f h e = tests (list_any (λ t. nat_lt 64 (degree t.1)) f) (nat_l
     tests false false q = ok_is f h q
 
 module _ (n p place : ℕ) where
-  knows_within : (f h : Poly) → Knows n f → within place (normal p f) ≡ Ok h → Knows n h
+  knows_within : (f h : Poly) → Knows n f → limited place (normal p f) ≡ Ok h → Knows n h
   knows_within f h k e = subst (Knows n) (within-is place (normal p f) h e) (normal-each (λ m. are_below n m ≡ true) p f k)
 
   knows_scale : (c : ℕ) (f : Poly) → Knows n f → Knows n (scale c f)

@@ -7,15 +7,13 @@ use Rattle.std.proofs.lemmas.List.Quantifiers.{position-Some}
 use Rattle.alb_lex.specs.declared.token.Token.{Token}
 use Rattle.alb_lex.specs.declared.token.TokenKind.{TokenKind}
 use Rattle.alb_lex.specs.declared.token.TokenKind.TheVariants as kinds
-use Rattle.alb_mono.specs.Mono.{tree}
-use Rattle.alb_mono.specs.Tree.{Tree, leaf, node, degree, are_below}
+use Rattle.alb_mono.specs.Tree.{tree, Tree, leaf, node, degree, are_below}
 use Rattle.alb_mono.specs.declared.mono.Mono.{Mono}
 use Rattle.alb_syntax.specs.declared.error.SyntaxError.{SyntaxError}
 use Rattle.alb_lex.specs.Results.{◌>>=◌}
 use Rattle.alb_syntax.specs.Gives.{Gives}
-use Rattle.alb_syntax.specs.Reading.{ReadingOf, ReaderOf, next, after, place_or, must_or, is_close, each, ended}
-use Rattle.alb_syntax.specs.Monomials.{Lettering, begins_part, named, part_at, part, joined, next_part, mono, enclosed, nested, mono_denoted, Shape, Part, Product, Spells}
-use Rattle.alb_syntax.specs.Monomials as grammar
+use Rattle.alb_syntax.specs.Reading.{ReadingOf, ReaderOf, next, after, place_or, must_or, is_close, each, ended, Lettering, begins_part, lettered, part_from, part, joined, next_part, mono, enclosed, nested, mono_denoted, Shape, Part, Product, Spells}
+use Rattle.alb_syntax.specs.Reading as grammar
 use Rattle.alb_lex.proofs.Binds.{bind_ok, ok_is}
 use Rattle.alb_syntax.proofs.Turns.{Shrinks, IsPart, each-less, each-step, each-stops}
 use Rattle.alb_syntax.proofs.Shrinks.{after-less, after-shorter, ok_rest, must-less}
@@ -24,12 +22,12 @@ use Rattle.alb_syntax.proofs.Regroups.{regroup_one}
 
 -- ---- what is read takes a token
 
-named-takes : (s : Lettering) (o : Option ℕ) (ts : List Token) (k : TokenKind) → next ts ≡ Some k → (x : Tree × List Token) → named s o ts ≡ Ok x → length x.1 < length ts
+named-takes : (s : Lettering) (o : Option ℕ) (ts : List Token) (k : TokenKind) → next ts ≡ Some k → (x : Tree × List Token) → lettered s o ts ≡ Ok x → length x.1 < length ts
 named-takes s (Some k) ts t n x e = let q = ok_rest (leaf k) (after ts) (after ts) (omega arith) x e in omega (arith, after-shorter ts t n, q)
 named-takes s None ts t n x e = absurd cc
 
 module _ (s : Lettering) (bracket : ReaderOf Tree) (is : Shrinks bracket) where
-  part_at-takes : (k : Option TokenKind) (ts : List Token) → next ts ≡ k → (x : Tree × List Token) → part_at s bracket k ts ≡ Ok x → length x.1 < length ts
+  part_at-takes : (k : Option TokenKind) (ts : List Token) → next ts ≡ k → (x : Tree × List Token) → part_from s bracket k ts ≡ Ok x → length x.1 < length ts
   part_at-takes (Some (kinds.Letter b)) ts n x e = named-takes s (position (λ x. x == b) s.letters) ts (kinds.Letter b) n x e
   part_at-takes (Some kinds.Open) ts n x e = is.less ts x e
   part_at-takes _ ts n x e = absurd cc
@@ -73,11 +71,11 @@ joined-low at l r h = rw (le-ltb 64 (degree l + degree r) h) refl
 module _ (s : Lettering) (b : ReaderOf Tree) where
   part-generator : (k x : ℕ) (t : Token) (rest : List Token) → t.kind ≡ kinds.Letter x → position (λ y. y == x) s.letters ≡ Some k → part s b (t ∷ rest) ≡ Ok (leaf k, rest)
   unfolding part
-  part-generator k x t rest e p = ap (λ y. part_at s b (Some y) (t ∷ rest)) e ∙ ap (λ o. named s o (t ∷ rest)) p
+  part-generator k x t rest e p = ap (λ y. part_from s b (Some y) (t ∷ rest)) e ∙ ap (λ o. lettered s o (t ∷ rest)) p
 
   part-open : (t : Token) (rest : List Token) → t.kind ≡ kinds.Open → part s b (t ∷ rest) ≡ b (t ∷ rest)
   unfolding part
-  part-open t rest e = ap (λ y. part_at s b (Some y) (t ∷ rest)) e
+  part-open t rest e = ap (λ y. part_from s b (Some y) (t ∷ rest)) e
 
   mono-gives : (ts rest : List Token) (m : Tree) → part s b ts ≡ Ok (m, rest) → mono s b ts ≡ each begins_part (next_part s b) m rest
   unfolding mono
@@ -149,11 +147,11 @@ joined-is at l r m e = elim (cases_Bool (nat_lt 64 (degree l + degree r))) [
 ]
 
 module _ (s : Lettering) (n : ℕ) (bracket : ReaderOf Tree) (opens : SpellingOpen s n bracket) where
-  named-spelled : (o : Option ℕ) (b : ℕ) (t : Token) (ts : List Token) (x : Tree × List Token) → t.kind ≡ kinds.Letter b → position (λ y. y == b) s.letters ≡ o → named s o (t ∷ ts) ≡ Ok x → Spelled s Part n (t ∷ ts) x
+  named-spelled : (o : Option ℕ) (b : ℕ) (t : Token) (ts : List Token) (x : Tree × List Token) → t.kind ≡ kinds.Letter b → position (λ y. y == b) s.letters ≡ o → lettered s o (t ∷ ts) ≡ Ok x → Spelled s Part n (t ∷ ts) x
   named-spelled (Some k) b t ts x e p h = spelled_at s Part n (t ∷ ts) ts (leaf k) (t ∷ []) refl (grammar.a_generator n k b t e p) x (ok_is (leaf k, ts) x h)
   named-spelled None b t ts x e p h = absurd cc
 
-  part_at-spelled : (k : TokenKind) (t : Token) (ts : List Token) (x : Tree × List Token) → t.kind ≡ k → part_at s bracket (Some k) (t ∷ ts) ≡ Ok x → Spelled s Part n (t ∷ ts) x
+  part_at-spelled : (k : TokenKind) (t : Token) (ts : List Token) (x : Tree × List Token) → t.kind ≡ k → part_from s bracket (Some k) (t ∷ ts) ≡ Ok x → Spelled s Part n (t ∷ ts) x
   part_at-spelled (kinds.Letter b) t ts x e h = named-spelled (position (λ y. y == b) s.letters) b t ts x e refl h
   part_at-spelled kinds.Open t ts x e h = opens t ts x e h
   part_at-spelled _ t ts x e h = absurd cc

@@ -8,8 +8,7 @@ use Rattle.alb_poly.specs.Poly.{Poly}
 use Rattle.alb_syntax.specs.declared.error.SyntaxError.{SyntaxError}
 use Rattle.alb_syntax.specs.declared.error.SyntaxError.TheVariants as errors
 use Rattle.alb_lex.specs.Results.{◌>>=◌}
-use Rattle.alb_syntax.specs.Operations.{sum, difference, times, multiple, associator, commutator, jordan, raised}
-use Rattle.alb_syntax.specs.Reading.{Setting, ReadingOf, Reading, Reader, next, after, place, place_or, unexpected, must, must_or, is_plus, is_sign, is_star, is_comma, is_open, is_close, is_square_close, begins_atom, each, letter, atom_at, atom, exponent_at, exponent, is_caret, power, factor, juxt, star, jprod, numbered, term_at, term, first_at, first, signed, poly, two_more, round, square, bracketed}
+use Rattle.alb_syntax.specs.Reading.{sum, difference, times, multiple, associator, commutator, jordan, raised, Setting, ReadingOf, PolyReading, PolyReader, next, after, place, place_or, unexpected, must, must_or, is_plus, is_sign, is_star, is_comma, is_open, is_close, is_square_close, begins_atom, each, letter, atom_at, atom, exponent_at, exponent, is_caret, power, factor, juxt, star, jprod, multiple_from, term_at, term, first_at, first, signed, poly, two_more, round, square, bracketed}
 use Rattle.alb_lex.proofs.Binds.{bind_ok, guard_ok, ok_is}
 use Rattle.alb_syntax.proofs.Turns.{Shrinks, IsPart, each-less, each-stops}
 
@@ -25,7 +24,7 @@ after-shorter (t ∷ ts) k e = omega arith
 abbrev pub Keeps : {V : Type 0} → ReadingOf V → List Token → Type 0
 Keeps {V} read ts = (x : V × List Token) → read ≡ Ok x → length x.1 ≤ length ts
 
-abbrev Takes : Reading → List Token → Type 0
+abbrev Takes : PolyReading → List Token → Type 0
 Takes read ts = (x : Poly × List Token) → read ≡ Ok x → length x.1 < length ts
 
 pub ok_rest : {V : Type 0} (f : V) (ts us : List Token) → length us ≤ length ts → Keeps (Ok (f, us)) ts
@@ -41,7 +40,7 @@ letter-takes : (s : Setting) (o : Option ℕ) (ts : List Token) (k : TokenKind) 
 letter-takes s (Some k) ts t n x e = let q = ok_rest _ (after ts) (after ts) (omega arith) x e in omega (arith, after-shorter ts t n, q)
 letter-takes s None ts t n x e = absurd cc
 
-module _ (s : Setting) (bracket : Reader) (is : Shrinks bracket) where
+module _ (s : Setting) (bracket : PolyReader) (is : Shrinks bracket) where
   atom_at-takes : (k : Option TokenKind) (ts : List Token) → next ts ≡ k → Takes (atom_at s bracket k ts) ts
   atom_at-takes (Some (kinds.Letter b)) ts n x e = letter-takes s (position (λ x. x == b) s.letters) ts (kinds.Letter b) n x e
   atom_at-takes (Some kinds.Open) ts n x e = is.less ts x e
@@ -67,7 +66,7 @@ either_ok : {A : Type 0} (b : Bool) (r q : Result A SyntaxError) (P : A → Type
 either_ok true r q P h k x e = h x e
 either_ok false r q P h k x e = k x e
 
-module _ (s : Setting) (bracket : Reader) (is : Shrinks bracket) where
+module _ (s : Setting) (bracket : PolyReader) (is : Shrinks bracket) where
   pub power-takes : (ts : List Token) → Takes (power s bracket ts) ts
   unfolding power
   power-takes ts x e =
@@ -109,8 +108,8 @@ module _ (s : Setting) (bracket : Reader) (is : Shrinks bracket) where
       let w = bind_ok (juxt s bracket ts) (λ y. each is_star (star s bracket) y.0 y.1) x e in
       omega (arith, juxt-takes ts w.0 w.1, each-less is_star (star s bracket) star-part w.0.0 w.0.1 x w.2)
 
-  numbered-keeps : (n : ℕ) (ts : List Token) → Keeps (numbered s bracket n ts) ts
-  unfolding numbered
+  numbered-keeps : (n : ℕ) (ts : List Token) → Keeps (multiple_from s bracket n ts) ts
+  unfolding multiple_from
   numbered-keeps n ts x e =
       either_ok (begins_atom (next ts)) (jprod s bracket ts >>= λ y. Ok (multiple s.field n y.0, y.1)) (cond (n == 0) (Ok ([], ts)) (unexpected s ts)) (λ z. length z.1 ≤ length ts)
       (λ z k. let w = bind_ok (jprod s bracket ts) (λ y. Ok (multiple s.field n y.0, y.1)) z k in
@@ -154,7 +153,7 @@ module _ (s : Setting) (bracket : Reader) (is : Shrinks bracket) where
   unfolding poly
   poly-single ts rest f e h = rw e (each-stops is_sign (signed s bracket) signed-part f rest h)
 
-module _ (s : Setting) (inside : Reader) (is : (ts : List Token) → Takes (inside ts) ts) (at : ℕ) where
+module _ (s : Setting) (inside : PolyReader) (is : (ts : List Token) → Takes (inside ts) ts) (at : ℕ) where
   two_more-takes : (f : Poly) (ts : List Token) → Takes (two_more s inside at f ts) ts
   unfolding two_more
   two_more-takes f ts x e =

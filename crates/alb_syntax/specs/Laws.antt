@@ -4,8 +4,7 @@ use Rattle.alb_lex.specs.declared.token.Token.{Token}
 use Rattle.alb_mono.specs.Tree.{Tree}
 use Rattle.alb_poly.specs.Poly.{Poly}
 use Rattle.alb_syntax.specs.Grammar.{Denotes, Sum}
-use Rattle.alb_syntax.specs.Monomials.{Spells, Product, mono_denoted}
-use Rattle.alb_syntax.specs.Reading.{denoted}
+use Rattle.alb_syntax.specs.Reading.{Spells, Product, mono_denoted, denoted}
 
 -- tokens denote a polynomial exactly where the reader gives it
 abbrev pub ReadsWhatIsDenoted : Type 0

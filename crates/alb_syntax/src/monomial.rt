@@ -1,12 +1,10 @@
 //! The reader of monomials by themselves.
 
 ghost use Rattle.std.specs.Prelude.{◌≡◌, ◌≤◌, ◌+◌, Ok, IfOk, IsTrue, length};
-ghost use Rattle.alb_mono.specs.Mono.{tree};
-ghost use Rattle.alb_mono.specs.Tree.{Tree, degree, are_below};
+ghost use Rattle.alb_mono.specs.Tree.{tree, Tree, degree, are_below};
 ghost use Rattle.alb_syntax.specs.Gives.{Gives};
 ghost use Rattle.alb_syntax.specs.Lettering.{lettering};
-ghost use Rattle.alb_syntax.specs.Monomials.{begins_part, part, joined, next_part, mono, nested, mono_denoted, Spells, Product};
-ghost use Rattle.alb_syntax.specs.Reading.{place_or};
+ghost use Rattle.alb_syntax.specs.Reading.{begins_part, part, joined, next_part, mono, nested, mono_denoted, Spells, Product, place_or};
 
 use crate::error::SyntaxError;
 use crate::setting::{after, next};
@@ -41,7 +39,7 @@ fn begins_part(kind: Option<TokenKind>) -> bool
 }
 
 // The product of two monomials, of degree at most 64.
-#[tactic(auto, unfolding(crate::specs::Monomials::joined))]
+#[tactic(auto, unfolding(crate::specs::Reading::joined))]
 fn joined(alloc: Global, place: u32, left: Mono, right: Mono) -> Result<Mono, SyntaxError>
     requires left { degree (tree left) ≤ 64 }
     requires right { degree (tree right) ≤ 64 }
@@ -57,7 +55,7 @@ fn joined(alloc: Global, place: u32, left: Mono, right: Mono) -> Result<Mono, Sy
 
 // A monomial in brackets; inside them brackets may nest `left - 1` deep.
 #[cycle(monomial)]
-#[tactic(auto, unfolding(crate::specs::Monomials::nested, crate::specs::Monomials::enclosed))]
+#[tactic(auto, unfolding(crate::specs::Reading::nested, crate::specs::Reading::enclosed))]
 fn nested<'a>(
     alloc: Global,
     s: &Alphabet,
@@ -83,7 +81,7 @@ fn nested<'a>(
 
 // A letter, or a monomial in brackets.
 #[cycle(monomial)]
-#[tactic(auto, unfolding(crate::specs::Monomials::part))]
+#[tactic(auto, unfolding(crate::specs::Reading::part))]
 fn part<'a>(
     alloc: Global,
     s: &Alphabet,
@@ -109,7 +107,7 @@ fn part<'a>(
 
 // One more part.
 #[cycle(monomial)]
-#[tactic(auto, unfolding(crate::specs::Monomials::next_part))]
+#[tactic(auto, unfolding(crate::specs::Reading::next_part))]
 fn next_part<'a>(
     alloc: Global,
     s: &Alphabet,
@@ -128,7 +126,7 @@ fn next_part<'a>(
 
 // A row of parts, multiplied from the left.
 #[cycle(monomial)]
-#[tactic(auto, unfolding(crate::specs::Monomials::mono))]
+#[tactic(auto, unfolding(crate::specs::Reading::mono))]
 fn mono<'a>(
     alloc: Global,
     s: &Alphabet,
@@ -148,7 +146,7 @@ fn mono<'a>(
 }
 
 // The monomial of all tokens.
-#[tactic(auto, unfolding(crate::specs::Monomials::mono_denoted))]
+#[tactic(auto, unfolding(crate::specs::Reading::mono_denoted))]
 fn whole(alloc: Global, tokens: &[Token], end: u32, letters: &Letters) -> Result<Mono, SyntaxError>
     ensures { Gives tree result (mono_denoted (record { letters = letters.now; end = end }) tokens.now) }
 {

@@ -3,7 +3,7 @@
 ghost use Rattle.std.specs.Prelude.{◌≡◌, ◌<◌, ◌≤◌, ◌-◌, Ok, IfOk, length, []};
 ghost use Rattle.alb_poly.specs.Poly.{generator};
 ghost use Rattle.alb_syntax.specs.Gives.{Gives};
-ghost use Rattle.alb_syntax.specs.Operations.{IsKept, within, sum, difference, times, multiple, associator, commutator, jordan, raised};
+ghost use Rattle.alb_syntax.specs.Reading.{IsCanonicalPoly, limited, sum, difference, times, multiple, associator, commutator, jordan, raised};
 
 use crate::error::SyntaxError;
 use alb_mono::Mono;
@@ -20,7 +20,7 @@ pub const MAX_DEGREE: u32 = 64;
 /// The zero polynomial.
 pub fn zero(alloc: Global, field: &Field) -> Poly
     ensures value { result ≡ [] }
-    ensures kept { IsKept field.now result }
+    ensures kept { IsCanonicalPoly field.now result }
 {
     let p = field.p();
     prove!(1 < p);
@@ -31,7 +31,7 @@ pub fn zero(alloc: Global, field: &Field) -> Poly
 pub fn generator(alloc: Global, field: &Field, k: u8) -> Result<Poly, SyntaxError>
     requires { k < 26 }
     ensures value { Gives (λ h. h) result (Ok (generator k)) }
-    ensures kept { IfOk result (λ h. IsKept field.now h) }
+    ensures kept { IfOk result (λ h. IsCanonicalPoly field.now h) }
 {
     let p = field.p();
     prove!(1 < p);
@@ -41,9 +41,9 @@ pub fn generator(alloc: Global, field: &Field, k: u8) -> Result<Poly, SyntaxErro
 
 /// A multiple by a number, which counts modulo p. It passes no limit.
 pub fn multiple(alloc: Global, field: &Field, n: u64, f: &Poly) -> Result<Poly, SyntaxError>
-    requires { IsKept field.now f.now }
+    requires { IsCanonicalPoly field.now f.now }
     ensures value { Gives (λ h. h) result (Ok (multiple field.now n f.now)) }
-    ensures kept { IfOk result (λ h. IsKept field.now h) }
+    ensures kept { IfOk result (λ h. IsCanonicalPoly field.now h) }
 {
     let c = (n % field.p()) as Residue;
     let h = f.scale(alloc, field, c)?;
@@ -52,16 +52,16 @@ pub fn multiple(alloc: Global, field: &Field, n: u64, f: &Poly) -> Result<Poly, 
 
 /// The negative.
 pub fn negative(alloc: Global, field: &Field, f: &Poly) -> Result<Poly, SyntaxError>
-    requires { IsKept field.now f.now }
+    requires { IsCanonicalPoly field.now f.now }
     ensures value { Gives (λ h. h) result (Ok (multiple field.now (field.now - 1) f.now)) }
-    ensures kept { IfOk result (λ h. IsKept field.now h) }
+    ensures kept { IfOk result (λ h. IsCanonicalPoly field.now h) }
 {
     multiple(alloc, field, field.p() - 1, f)
 }
 
 // A polynomial of at most 65,536 terms.
 fn within(place: u32, f: Poly) -> Result<Poly, SyntaxError>
-    ensures value { Gives (λ h. h) result (within place f) }
+    ensures value { Gives (λ h. h) result (limited place f) }
     ensures same { IfOk result (λ h. h ≡ f) }
     ensures few { IfOk result (λ h. length h ≤ 65536) }
 {
@@ -80,10 +80,10 @@ pub fn sum(
     f: &Poly,
     g: &Poly,
 ) -> Result<Poly, SyntaxError>
-    requires left { IsKept field.now f.now }
-    requires right { IsKept field.now g.now }
+    requires left { IsCanonicalPoly field.now f.now }
+    requires right { IsCanonicalPoly field.now g.now }
     ensures value { Gives (λ h. h) result (sum field.now place f.now g.now) }
-    ensures kept { IfOk result (λ h. IsKept field.now h) }
+    ensures kept { IfOk result (λ h. IsCanonicalPoly field.now h) }
 {
     let h = f.add(alloc, field, g)?;
     within(place, h)
@@ -97,10 +97,10 @@ pub fn difference(
     f: &Poly,
     g: &Poly,
 ) -> Result<Poly, SyntaxError>
-    requires left { IsKept field.now f.now }
-    requires right { IsKept field.now g.now }
+    requires left { IsCanonicalPoly field.now f.now }
+    requires right { IsCanonicalPoly field.now g.now }
     ensures value { Gives (λ h. h) result (difference field.now place f.now g.now) }
-    ensures kept { IfOk result (λ h. IsKept field.now h) }
+    ensures kept { IfOk result (λ h. IsCanonicalPoly field.now h) }
 {
     let turned = negative(alloc, field, g)?;
     let h = f.add(alloc, field, &turned)?;
@@ -115,10 +115,10 @@ pub fn times(
     f: &Poly,
     g: &Poly,
 ) -> Result<Poly, SyntaxError>
-    requires left { IsKept field.now f.now }
-    requires right { IsKept field.now g.now }
+    requires left { IsCanonicalPoly field.now f.now }
+    requires right { IsCanonicalPoly field.now g.now }
     ensures value { Gives (λ h. h) result (times field.now place f.now g.now) }
-    ensures kept { IfOk result (λ h. IsKept field.now h) }
+    ensures kept { IfOk result (λ h. IsCanonicalPoly field.now h) }
 {
     let count = f.terms().len() as u64 * g.terms().len() as u64;
     if count == 0 {
@@ -135,7 +135,7 @@ pub fn times(
 }
 
 /// The associator (xy)z - x(yz).
-#[tactic(auto, unfolding(crate::specs::Operations::associator))]
+#[tactic(auto, unfolding(crate::specs::Reading::associator))]
 pub fn associator(
     alloc: Global,
     field: &Field,
@@ -144,11 +144,11 @@ pub fn associator(
     y: &Poly,
     z: &Poly,
 ) -> Result<Poly, SyntaxError>
-    requires first { IsKept field.now x.now }
-    requires second { IsKept field.now y.now }
-    requires third { IsKept field.now z.now }
+    requires first { IsCanonicalPoly field.now x.now }
+    requires second { IsCanonicalPoly field.now y.now }
+    requires third { IsCanonicalPoly field.now z.now }
     ensures value { Gives (λ h. h) result (associator field.now place x.now y.now z.now) }
-    ensures kept { IfOk result (λ h. IsKept field.now h) }
+    ensures kept { IfOk result (λ h. IsCanonicalPoly field.now h) }
 {
     let xy = times(alloc, field, place, x, y)?;
     let left = times(alloc, field, place, &xy, z)?;
@@ -158,7 +158,7 @@ pub fn associator(
 }
 
 /// The commutator xy - yx.
-#[tactic(auto, unfolding(crate::specs::Operations::commutator))]
+#[tactic(auto, unfolding(crate::specs::Reading::commutator))]
 pub fn commutator(
     alloc: Global,
     field: &Field,
@@ -166,10 +166,10 @@ pub fn commutator(
     x: &Poly,
     y: &Poly,
 ) -> Result<Poly, SyntaxError>
-    requires left { IsKept field.now x.now }
-    requires right { IsKept field.now y.now }
+    requires left { IsCanonicalPoly field.now x.now }
+    requires right { IsCanonicalPoly field.now y.now }
     ensures value { Gives (λ h. h) result (commutator field.now place x.now y.now) }
-    ensures kept { IfOk result (λ h. IsKept field.now h) }
+    ensures kept { IfOk result (λ h. IsCanonicalPoly field.now h) }
 {
     let xy = times(alloc, field, place, x, y)?;
     let yx = times(alloc, field, place, y, x)?;
@@ -177,7 +177,7 @@ pub fn commutator(
 }
 
 /// The Jordan product xy + yx.
-#[tactic(auto, unfolding(crate::specs::Operations::jordan))]
+#[tactic(auto, unfolding(crate::specs::Reading::jordan))]
 pub fn jordan(
     alloc: Global,
     field: &Field,
@@ -185,10 +185,10 @@ pub fn jordan(
     x: &Poly,
     y: &Poly,
 ) -> Result<Poly, SyntaxError>
-    requires left { IsKept field.now x.now }
-    requires right { IsKept field.now y.now }
+    requires left { IsCanonicalPoly field.now x.now }
+    requires right { IsCanonicalPoly field.now y.now }
     ensures value { Gives (λ h. h) result (jordan field.now place x.now y.now) }
-    ensures kept { IfOk result (λ h. IsKept field.now h) }
+    ensures kept { IfOk result (λ h. IsCanonicalPoly field.now h) }
 {
     let xy = times(alloc, field, place, x, y)?;
     let yx = times(alloc, field, place, y, x)?;
@@ -204,9 +204,9 @@ pub fn power(
     n: u64,
 ) -> Result<Poly, SyntaxError>
     requires some { 1 ≤ n }
-    requires factor { IsKept field.now x.now }
+    requires factor { IsCanonicalPoly field.now x.now }
     ensures value { Gives (λ h. h) result (raised field.now place x.now (n - 1) x.now) }
-    ensures kept { IfOk result (λ h. IsKept field.now h) }
+    ensures kept { IfOk result (λ h. IsCanonicalPoly field.now h) }
 {
     let mut f = x.try_copy(alloc)?;
     for _ in 1..n {

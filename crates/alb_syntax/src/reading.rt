@@ -2,14 +2,12 @@
 
 ghost use Rattle.std.specs.Prelude.{◌≤◌, All, IfOk, IsTrue, Ok, length};
 ghost use Rattle.alb_mono.specs.Tree.{are_below};
-ghost use Rattle.alb_poly.specs.Normal.{normal};
-ghost use Rattle.alb_poly.specs.Poly.{Poly, AreResidues};
+ghost use Rattle.alb_poly.specs.Poly.{normal, Poly, AreResidues};
 ghost use Rattle.alb_poly.specs.Terms.{terms};
 ghost use Rattle.alb_syntax.specs.Grammar.{Denotes, Sum};
 ghost use Rattle.alb_syntax.specs.Gives.{Gives};
-ghost use Rattle.alb_syntax.specs.Operations.{IsKept, AreLoose};
+ghost use Rattle.alb_syntax.specs.Reading.{IsCanonicalPoly, AreLoose, each, is_sign, bracketed, atom, exponent, power, factor, juxt, star, jprod, term, first, signed, poly, round, two_more, square, denoted};
 ghost use Rattle.alb_syntax.specs.Setting.{setting};
-ghost use Rattle.alb_syntax.specs.Reading.{each, is_sign, bracketed, atom, exponent, power, factor, juxt, star, jprod, term, first, signed, poly, round, two_more, square, denoted};
 
 use crate::error::SyntaxError;
 use crate::setting::{Frame, after, begins_atom, is_sign, is_star, next};
@@ -29,9 +27,9 @@ fn exponent<'a>(
     x: &Poly,
     tokens: &'a [Token],
 ) -> Result<(Poly, &'a [Token]), SyntaxError>
-    requires { IsKept s.now.field.now x.now }
+    requires { IsCanonicalPoly s.now.field.now x.now }
     ensures reads { Gives (λ y. (y.0, y.1.now)) result (exponent (setting s.now) at x.now tokens.now) }
-    ensures kept { IfOk result (λ y. IsKept s.now.field.now y.0) }
+    ensures kept { IfOk result (λ y. IsCanonicalPoly s.now.field.now y.0) }
 {
     match next(tokens) {
         Some(TokenKind::Number(n)) => {
@@ -59,7 +57,7 @@ fn bracket<'a>(
     tokens: &'a [Token],
 ) -> Result<(Poly, &'a [Token]), SyntaxError>
     ensures reads { Gives (λ y. (y.0, y.1.now)) result (bracketed (setting s.now) left tokens.now) }
-    ensures kept { IfOk result (λ y. IsKept s.now.field.now y.0) }
+    ensures kept { IfOk result (λ y. IsCanonicalPoly s.now.field.now y.0) }
 {
     let at = s.place(tokens);
     if left == 0 {
@@ -82,7 +80,7 @@ fn round<'a>(
     tokens: &'a [Token],
 ) -> Result<(Poly, &'a [Token]), SyntaxError>
     ensures reads { Gives (λ y. (y.0, y.1.now)) result (round (setting s.now) (poly (setting s.now) (bracketed (setting s.now) left)) at tokens.now) }
-    ensures kept { IfOk result (λ y. IsKept s.now.field.now y.0) }
+    ensures kept { IfOk result (λ y. IsCanonicalPoly s.now.field.now y.0) }
 {
     let (x, rest) = poly(alloc, s, left, tokens)?;
     match next(rest) {
@@ -105,9 +103,9 @@ fn two_more<'a>(
     x: &Poly,
     tokens: &'a [Token],
 ) -> Result<(Poly, &'a [Token]), SyntaxError>
-    requires { IsKept s.now.field.now x.now }
+    requires { IsCanonicalPoly s.now.field.now x.now }
     ensures reads { Gives (λ y. (y.0, y.1.now)) result (two_more (setting s.now) (poly (setting s.now) (bracketed (setting s.now) left)) at x.now tokens.now) }
-    ensures kept { IfOk result (λ y. IsKept s.now.field.now y.0) }
+    ensures kept { IfOk result (λ y. IsCanonicalPoly s.now.field.now y.0) }
 {
     let (y, rest) = poly(alloc, s, left, tokens)?;
     let Some(TokenKind::Comma) = next(rest) else {
@@ -136,7 +134,7 @@ fn square<'a>(
     tokens: &'a [Token],
 ) -> Result<(Poly, &'a [Token]), SyntaxError>
     ensures reads { Gives (λ y. (y.0, y.1.now)) result (square (setting s.now) (poly (setting s.now) (bracketed (setting s.now) left)) at tokens.now) }
-    ensures kept { IfOk result (λ y. IsKept s.now.field.now y.0) }
+    ensures kept { IfOk result (λ y. IsCanonicalPoly s.now.field.now y.0) }
 {
     let (x, rest) = poly(alloc, s, left, tokens)?;
     let Some(TokenKind::Comma) = next(rest) else {
@@ -164,7 +162,7 @@ fn atom<'a>(
     tokens: &'a [Token],
 ) -> Result<(Poly, &'a [Token]), SyntaxError>
     ensures reads { Gives (λ y. (y.0, y.1.now)) result (atom (setting s.now) (bracketed (setting s.now) left) tokens.now) }
-    ensures kept { IfOk result (λ y. IsKept s.now.field.now y.0) }
+    ensures kept { IfOk result (λ y. IsCanonicalPoly s.now.field.now y.0) }
 {
     match next(tokens) {
         Some(TokenKind::Letter(b)) => match s.letters.number(b) {
@@ -193,7 +191,7 @@ fn power<'a>(
     tokens: &'a [Token],
 ) -> Result<(Poly, &'a [Token]), SyntaxError>
     ensures reads { Gives (λ y. (y.0, y.1.now)) result (power (setting s.now) (bracketed (setting s.now) left) tokens.now) }
-    ensures kept { IfOk result (λ y. IsKept s.now.field.now y.0) }
+    ensures kept { IfOk result (λ y. IsCanonicalPoly s.now.field.now y.0) }
 {
     let (x, rest) = atom(alloc, s, left, tokens)?;
     match next(rest) {
@@ -212,9 +210,9 @@ fn factor<'a>(
     f: &Poly,
     tokens: &'a [Token],
 ) -> Result<(Poly, &'a [Token]), SyntaxError>
-    requires { IsKept s.now.field.now f.now }
+    requires { IsCanonicalPoly s.now.field.now f.now }
     ensures reads { Gives (λ y. (y.0, y.1.now)) result (factor (setting s.now) (bracketed (setting s.now) left) f.now tokens.now) }
-    ensures kept { IfOk result (λ y. IsKept s.now.field.now y.0) }
+    ensures kept { IfOk result (λ y. IsCanonicalPoly s.now.field.now y.0) }
 {
     let (x, rest) = power(alloc, s, left, tokens)?;
     let g = operations::times(alloc, s.field, s.place(tokens), f, &x)?;
@@ -231,7 +229,7 @@ fn juxt<'a>(
     tokens: &'a [Token],
 ) -> Result<(Poly, &'a [Token]), SyntaxError>
     ensures reads { Gives (λ y. (y.0, y.1.now)) result (juxt (setting s.now) (bracketed (setting s.now) left) tokens.now) }
-    ensures kept { IfOk result (λ y. IsKept s.now.field.now y.0) }
+    ensures kept { IfOk result (λ y. IsCanonicalPoly s.now.field.now y.0) }
 {
     let (mut f, mut rest) = power(alloc, s, left, tokens)?;
     'factors: while begins_atom(next(rest)) {
@@ -252,9 +250,9 @@ fn star<'a>(
     f: &Poly,
     tokens: &'a [Token],
 ) -> Result<(Poly, &'a [Token]), SyntaxError>
-    requires { IsKept s.now.field.now f.now }
+    requires { IsCanonicalPoly s.now.field.now f.now }
     ensures reads { Gives (λ y. (y.0, y.1.now)) result (star (setting s.now) (bracketed (setting s.now) left) f.now tokens.now) }
-    ensures kept { IfOk result (λ y. IsKept s.now.field.now y.0) }
+    ensures kept { IfOk result (λ y. IsCanonicalPoly s.now.field.now y.0) }
 {
     let (x, rest) = juxt(alloc, s, left, after(tokens))?;
     let g = operations::jordan(alloc, s.field, s.place(tokens), f, &x)?;
@@ -271,7 +269,7 @@ fn jprod<'a>(
     tokens: &'a [Token],
 ) -> Result<(Poly, &'a [Token]), SyntaxError>
     ensures reads { Gives (λ y. (y.0, y.1.now)) result (jprod (setting s.now) (bracketed (setting s.now) left) tokens.now) }
-    ensures kept { IfOk result (λ y. IsKept s.now.field.now y.0) }
+    ensures kept { IfOk result (λ y. IsCanonicalPoly s.now.field.now y.0) }
 {
     let (mut f, mut rest) = juxt(alloc, s, left, tokens)?;
     'stars: while is_star(next(rest)) {
@@ -284,7 +282,7 @@ fn jprod<'a>(
 
 // A product, perhaps behind a number, or the number 0 by itself.
 #[cycle(parser)]
-#[tactic(auto, unfolding(crate::specs::Reading::term, crate::specs::Reading::numbered, crate::specs::Operations::multiple))]
+#[tactic(auto, unfolding(crate::specs::Reading::term, crate::specs::Reading::multiple_from, crate::specs::Reading::multiple))]
 fn term<'a>(
     alloc: Global,
     s: &Frame,
@@ -292,7 +290,7 @@ fn term<'a>(
     tokens: &'a [Token],
 ) -> Result<(Poly, &'a [Token]), SyntaxError>
     ensures reads { Gives (λ y. (y.0, y.1.now)) result (term (setting s.now) (bracketed (setting s.now) left) tokens.now) }
-    ensures kept { IfOk result (λ y. IsKept s.now.field.now y.0) }
+    ensures kept { IfOk result (λ y. IsCanonicalPoly s.now.field.now y.0) }
 {
     match next(tokens) {
         Some(TokenKind::Number(n)) => {
@@ -350,9 +348,9 @@ fn more_terms<'a>(
     f: Poly,
     tokens: &'a [Token],
 ) -> Result<(Poly, &'a [Token]), SyntaxError>
-    requires { IsKept s.now.field.now f }
+    requires { IsCanonicalPoly s.now.field.now f }
     ensures reads { Gives (λ y. (y.0, y.1.now)) result (each is_sign (signed (setting s.now) (bracketed (setting s.now) left)) f tokens.now) }
-    ensures kept { IfOk result (λ y. IsKept s.now.field.now y.0) }
+    ensures kept { IfOk result (λ y. IsCanonicalPoly s.now.field.now y.0) }
 {
     let mut list = f.into_terms();
     let mut rest = tokens;
@@ -367,7 +365,7 @@ fn more_terms<'a>(
 
 // The first term with its sign.
 #[cycle(parser)]
-#[tactic(auto, unfolding(crate::specs::Reading::first, crate::specs::Operations::multiple))]
+#[tactic(auto, unfolding(crate::specs::Reading::first, crate::specs::Reading::multiple))]
 fn first<'a>(
     alloc: Global,
     s: &Frame,
@@ -375,7 +373,7 @@ fn first<'a>(
     tokens: &'a [Token],
 ) -> Result<(Poly, &'a [Token]), SyntaxError>
     ensures reads { Gives (λ y. (y.0, y.1.now)) result (first (setting s.now) (bracketed (setting s.now) left) tokens.now) }
-    ensures kept { IfOk result (λ y. IsKept s.now.field.now y.0) }
+    ensures kept { IfOk result (λ y. IsCanonicalPoly s.now.field.now y.0) }
 {
     match next(tokens) {
         Some(TokenKind::Plus) => term(alloc, s, left, after(tokens)),
@@ -398,7 +396,7 @@ fn poly<'a>(
     tokens: &'a [Token],
 ) -> Result<(Poly, &'a [Token]), SyntaxError>
     ensures reads { Gives (λ y. (y.0, y.1.now)) result (poly (setting s.now) (bracketed (setting s.now) left) tokens.now) }
-    ensures kept { IfOk result (λ y. IsKept s.now.field.now y.0) }
+    ensures kept { IfOk result (λ y. IsCanonicalPoly s.now.field.now y.0) }
 {
     let (f, rest) = first(alloc, s, left, tokens)?;
     if !is_sign(next(rest)) {
@@ -417,7 +415,7 @@ fn whole(
     field: &Field,
 ) -> Result<Poly, SyntaxError>
     ensures value { Gives (λ f. f) result (denoted (record { field = field.now; letters = letters.now; end = end }) tokens.now) }
-    ensures kept { IfOk result (λ f. IsKept field.now f) }
+    ensures kept { IfOk result (λ f. IsCanonicalPoly field.now f) }
 {
     let s = Frame {
         field,

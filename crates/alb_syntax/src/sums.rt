@@ -5,10 +5,10 @@
 //! that only where it would grow past the greatest number of terms.
 
 ghost use Rattle.std.specs.Prelude.{◌≡◌, ◌++◌, Ok, IfOk};
-ghost use Rattle.alb_poly.specs.Normal.{normal};
+ghost use Rattle.alb_poly.specs.Poly.{normal};
 ghost use Rattle.alb_poly.specs.Terms.{terms};
 ghost use Rattle.alb_syntax.specs.Gives.{Gives};
-ghost use Rattle.alb_syntax.specs.Operations.{IsKept, AreLoose, sum, difference};
+ghost use Rattle.alb_syntax.specs.Reading.{IsCanonicalPoly, AreLoose, sum, difference};
 
 use crate::error::SyntaxError;
 use crate::operations::{self, MAX_TERMS};
@@ -20,7 +20,7 @@ use std::alloc::Global;
 pub fn put_together(alloc: Global, field: &Field, list: Vec<Term>) -> Result<Poly, SyntaxError>
     requires { AreLoose field.now (terms list.items) }
     ensures value { Gives (λ h. h) result (Ok (normal field.now (terms list.items))) }
-    ensures kept { IfOk result (λ h. IsKept field.now h) }
+    ensures kept { IfOk result (λ h. IsCanonicalPoly field.now h) }
 {
     let f = Poly::from_terms(alloc, field, list)?;
     Ok(f)
@@ -45,7 +45,7 @@ pub fn added(
     x: Poly,
 ) -> Result<Vec<Term>, SyntaxError>
     requires so_far { AreLoose field.now (terms list.items) }
-    requires more { IsKept field.now x }
+    requires more { IsCanonicalPoly field.now x }
     ensures value { Gives (λ v. normal field.now (terms v.items)) result (sum field.now place (normal field.now (terms list.items)) x) }
     ensures loose { IfOk result (λ v. AreLoose field.now (terms v.items)) }
 {
@@ -68,7 +68,7 @@ pub fn subtracted(
     x: &Poly,
 ) -> Result<Vec<Term>, SyntaxError>
     requires so_far { AreLoose field.now (terms list.items) }
-    requires more { IsKept field.now x.now }
+    requires more { IsCanonicalPoly field.now x.now }
     ensures value { Gives (λ v. normal field.now (terms v.items)) result (difference field.now place (normal field.now (terms list.items)) x.now) }
     ensures loose { IfOk result (λ v. AreLoose field.now (terms v.items)) }
 {

@@ -4,17 +4,17 @@ use Rattle.std.proofs.lemmas.List.{length-map}
 use Rattle.alb_mono.specs.Listing.{Each}
 use Rattle.alb_mono.specs.Tree.{Tree}
 use Rattle.alb_poly.specs.Poly.{Poly}
-use Rattle.alb_poly.specs.Identity.{IsHomogeneous}
-use Rattle.alb_poly.specs.Rules.{forms}
+use Rattle.alb_poly.specs.Instance.{IsHomogeneous}
+use Rattle.alb_poly.specs.Consequence.{forms}
 use Rattle.alb_linear.specs.Identity.{DegreeOne, leading_type, identity_fault, type_fault, degree_fault, other_term}
 use Rattle.alb_linear.specs.declared.identity.Identity.{Identity}
 use Rattle.alb_linear.proofs.LinearLemmas.{IsFit, identity-fits, degree-pos}
-use Rattle.alb_problem.specs.Builder.{linear_form, IsKept}
+use Rattle.alb_problem.specs.Builder.{linear_form, IsKeptIdentity}
 use Rattle.alb_problem.specs.Problem.{IsAccepted}
 use Rattle.alb_problem.specs.declared.problem.Problem.{Problem}
 use Rattle.alb_problem.proofs.AllVectors.{degree-type}
 use Rattle.alb_table.specs.Right.{AreHigh}
-use Rattle.alb_table.specs.RightFor.{rules_view, AreRules}
+use Rattle.alb_table.specs.RightTable.{rules_view, AreRules}
 
 -- ---- the degree of an identity
 
@@ -36,11 +36,11 @@ identity-low f h = let fit : IsFit f = identity-fits f h in fit.small
 
 -- ---- accepted problems
 
-kept-high : (p : ℕ) (fs : List Identity) → Each (λ f. IsKept p f.poly) fs → AreHigh (map (λ (f : Identity). linear_form p f.poly) fs)
+kept-high : (p : ℕ) (fs : List Identity) → Each (λ f. IsKeptIdentity p f.poly) fs → AreHigh (map (λ (f : Identity). linear_form p f.poly) fs)
 kept-high p [] h = tt
 kept-high p (f ∷ fs) h = (identity-high f.poly h.0.homogeneous h.0.no_fault, kept-high p fs h.1)
 
-kept-low : (p : ℕ) (fs : List Identity) → Each (λ f. IsKept p f.poly) fs → Each (λ f. f.degree ≤ 8) (map (λ (f : Identity). linear_form p f.poly) fs)
+kept-low : (p : ℕ) (fs : List Identity) → Each (λ f. IsKeptIdentity p f.poly) fs → Each (λ f. f.degree ≤ 8) (map (λ (f : Identity). linear_form p f.poly) fs)
 kept-low p [] h = tt
 kept-low p (f ∷ fs) h = (identity-low f.poly h.0.no_fault, kept-low p fs h.1)
 

@@ -6,9 +6,8 @@ use Rattle.alb_mono.specs.Tree.{Tree, leaf, node, count}
 use Rattle.alb_poly.specs.Poly.{Poly}
 use Rattle.alb_poly.specs.Instance.{Form}
 use Rattle.alb_poly.specs.Consequence.{form_at}
-use Rattle.alb_table.specs.Leading.{SameType}
-use Rattle.alb_table.specs.Right.{StandsFor}
-use Rattle.alb_table.specs.Block.{InSpan, IsPivot}
+use Rattle.alb_table.specs.Right.{SameType, StandsFor}
+use Rattle.alb_table.specs.Block.{InNamedSpan, IsPivotMonomial}
 
 -- a set of monomials with each one's factors
 pub record IsClosed (Within : Tree → Type 0) : Type 0 where
@@ -45,6 +44,6 @@ IsColumn Basis z (node b c) = Basis b × Basis c × SameType (node b c) z
 
 -- `m` with `rest` is an element of the span, and the monomials of `rest` are columns and no pivots
 pub record IsReducedRow {N : Type 0} (p : ℕ) (Named : N → Type 0) (row : N → Poly) (Column : Tree → Type 0) (m : Tree) (rest : Poly) : Type 0 where
-  pub in_span : InSpan p Named row ((1, m) ∷ rest)
+  pub in_span : InNamedSpan p Named row ((1, m) ∷ rest)
   pub columns : Each (λ t. Column t.1) rest
-  pub no_pivots : Each (λ t. IsPivot p Named row t.1 → ⊥) rest
+  pub no_pivots : Each (λ t. IsPivotMonomial p Named row t.1 → ⊥) rest

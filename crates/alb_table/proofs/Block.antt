@@ -4,19 +4,18 @@ use Rattle.std.specs.List.{Contains}
 use Rattle.std.specs.List.Sorted.{IsStrictlySortedBy}
 use Rattle.alb_mono.specs.Tree.{Tree, cmp_trees}
 use Rattle.gf_sums.specs.Sums.{Comb, reindex}
-use Rattle.alb_poly.specs.Algebra.{unit}
+use Rattle.alb_poly.specs.Textbook.{unit}
 use Rattle.gf_sums.proofs.Alike.{itself, turned}
 use Rattle.alb_poly.specs.Poly.{Poly}
 use Rattle.alb_poly.specs.Instance.{Form}
 use Rattle.alb_mono.specs.Listing.{Each}
 use Rattle.alb_poly.proofs.Multilinear.{each-from}
 use Rattle.alb_poly.specs.Consequence.{AreMultilinear}
-use Rattle.alb_table.specs.Leading.{IsZeroAt}
+use Rattle.alb_table.specs.Right.{IsZeroAt, AreHigh, IsWithinDegree, IsBasisTo, IsTypeTo}
 use Rattle.alb_table.proofs.Congruent.{difference-zero}
 use Rattle.alb_table.proofs.Spans.{span-alike, span-zero}
-use Rattle.alb_table.specs.Block.{InSpan, tuple_row, IsTupleAt, IsColumnAt, IsPivotAt, IsFreeAt, IsEntryAt, AreFreeAt}
+use Rattle.alb_table.specs.Block.{InNamedSpan, tuple_row, IsTupleAt, IsColumnAt, IsPivotAt, IsFreeAt, IsEntryAt, AreFreeAt}
 use Rattle.alb_table.proofs.Bases.{IsTable}
-use Rattle.alb_table.specs.Right.{AreHigh, IsWithin, IsBasisTo, IsTypeTo}
 use Rattle.alb_table.proofs.Right.{element-columns_at}
 use Rattle.alb_table.specs.Columns.{AreColumns, HaveSpan, IsEntryRow, col, vector_of}
 use Rattle.alb_table.proofs.Columns.{pivot-number, number-pivot, column-at, number, entry-free, entry-span, names-span}
@@ -24,13 +23,13 @@ use Rattle.gf_field.specs.Modular.{IsSameMod}
 use Rattle.alb_rows.specs.Span as Vectors
 
 module _ (p : ℕ) (pos : 0 < p) (fs : List Form) (multi : AreMultilinear fs) (high : AreHigh fs) (target : List ℕ) (d : ℕ) (big : 1 ≤ d) (entry : Tree → Tree → Poly)
-    (table : IsTable p fs (IsWithin target d) (IsBasisTo p fs target d) entry) (t : List ℕ) (ty : IsTypeTo target (d + 1) t) (next : sum t ≡ d + 1)
+    (table : IsTable p fs (IsWithinDegree target d) (IsBasisTo p fs target d) entry) (t : List ℕ) (ty : IsTypeTo target (d + 1) t) (next : sum t ≡ d + 1)
     {K : Type 0} (cols : List Tree) (are : AreColumns (IsColumnAt p fs target d t) cols)
     (f : K → ℕ → ℕ) (span : HaveSpan p (IsTupleAt p fs target d t) (tuple_row fs entry) cols f) where
   abbrev Named : ℕ × List Tree → Type 0
   Named name = IsTupleAt p fs target d t name
 
-  columns : (x : Poly) → InSpan p Named (tuple_row fs entry) x → (m : Tree) → (IsZeroAt p x m → ⊥) → IsColumnAt p fs target d t m
+  columns : (x : Poly) → InNamedSpan p Named (tuple_row fs entry) x → (m : Tree) → (IsZeroAt p x m → ⊥) → IsColumnAt p fs target d t m
   columns x s m n = element-columns_at p pos fs multi high target d big entry table t ty next x s m n
 
   -- a column whose number is no pivot of the rows is free
@@ -82,6 +81,6 @@ module _ (p : ℕ) (pos : 0 < p) (fs : List Form) (multi : AreMultilinear fs) (h
       ((k j : ℕ) → k < length names → IsSameMod p (g k j) (vector_of cols (tuple_row fs entry (get_or names k other)) j)) →
       ((k j : ℕ) → length names ≤ k → IsSameMod p (g k j) 0) →
       ((name : ℕ × List Tree) → Named name → Vectors.InSpan p g (vector_of cols (tuple_row fs entry name))) →
-      (name : ℕ × List Tree) → Named name → InSpan p (Contains names) (tuple_row fs entry) (tuple_row fs entry name)
+      (name : ℕ × List Tree) → Named name → InNamedSpan p (Contains names) (tuple_row fs entry) (tuple_row fs entry name)
   origins-span names other g named rows past spans name h =
       names-span p (IsColumnAt p fs target d t) cols are Named (tuple_row fs entry) columns names other g named rows past name h (spans name h)

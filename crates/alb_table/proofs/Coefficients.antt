@@ -9,7 +9,7 @@ use Rattle.std.specs.Ordering.{ordering_reverse}
 use Rattle.std.proofs.lemmas.Cmp.{tied_itself}
 use Rattle.std.proofs.lemmas.Bool.{cases_Bool, cases_eq, false≢true}
 use Rattle.gf_field.specs.Modular.{IsSameMod}
-use Rattle.gf_sums.specs.Sums.{Comb, coefficient, scale, Tells}
+use Rattle.gf_sums.specs.Sums.{Comb, coefficient, scale, TellsApart}
 use Rattle.gf_sums.proofs.Totals.{weigh-append, weigh-scale, coefficient-weigh}
 use Rattle.alb_mono.specs.Listing.{Each}
 use Rattle.alb_poly.proofs.Multilinear.{each-from}
@@ -36,7 +36,7 @@ filter-each q (x ∷ xs) = elim (cases_Bool (q x)) [
   | inr e ↦ rw e (filter-each q xs)
 ]
 
-module _ {I : Type 0} (same : I → I → Bool) (tells : Tells same) where
+module _ {I : Type 0} (same : I → I → Bool) (tells : TellsApart same) where
   pub coefficient-append : (f g : Comb I) (i : I) → coefficient same (f ++ g) i ≡ coefficient same f i + coefficient same g i
   coefficient-append f g i =
       coefficient-weigh same tells (f ++ g) i ∙ weigh-append _ f g

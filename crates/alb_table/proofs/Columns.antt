@@ -11,7 +11,7 @@ use Rattle.std.proofs.lemmas.Bool.Decides.{nat_tests}
 use Rattle.std.specs.Bool.{if◌then◌else◌}
 use Rattle.gf_field.specs.Modular.{IsSameMod}
 use Rattle.gf_field.proofs.Mod.{same, back, ◌⊙◌, plus, times, multiple, cancel_plus}
-use Rattle.alb_poly.specs.Algebra.{unit}
+use Rattle.alb_poly.specs.Textbook.{unit}
 use Rattle.alb_table.proofs.Congruent.{minus_one}
 use Rattle.alb_table.proofs.Values.{each-both, each-scale}
 use Rattle.alb_mono.specs.Tree.{Tree, leaf, cmp_trees, same_tree}
@@ -23,9 +23,9 @@ use Rattle.alb_poly.specs.Poly.{Poly}
 use Rattle.alb_mono.specs.Listing.{Each}
 use Rattle.alb_poly.proofs.Multilinear.{each-map, each-from}
 use Rattle.alb_poly.proofs.Consequence.{tree_tells, alike_poly, poly_alike}
-use Rattle.alb_table.specs.Leading.{IsZeroAt, difference}
+use Rattle.alb_table.specs.Right.{IsZeroAt, difference}
 use Rattle.alb_table.proofs.Coefficients.{zero_or, each-coefficient, coefficient-append, coefficient-scale, less-turned, greater-turned}
-use Rattle.alb_table.specs.Block.{spread, InSpan, IsPivot}
+use Rattle.alb_table.specs.Block.{spread, InNamedSpan, IsPivotMonomial}
 use Rattle.alb_table.proofs.Spans.{span-alike, span-zero, span-append, span-scale, span-one}
 use Rattle.alb_rows.specs.Span.{combination, Same, IsLead}
 use Rattle.alb_rows.specs.Row.{Cells, comb, entry}
@@ -76,7 +76,7 @@ combination-same f g (x ∷ xs) j h = plus (times (same {a = x.0} refl) (h x.1))
 
 module _ {N K : Type 0} (p : ℕ) (Named : N → Type 0) (row : N → Poly) (Column : Tree → Type 0) (cols : List Tree) (are : AreColumns Column cols)
     (f : K → ℕ → ℕ) (span : HaveSpan p Named row cols f)
-    (columns : (x : Poly) → InSpan p Named row x → (m : Tree) → (IsZeroAt p x m → ⊥) → Column m) where
+    (columns : (x : Poly) → InNamedSpan p Named row x → (m : Tree) → (IsZeroAt p x m → ⊥) → Column m) where
   items_vector : (items : Comb N) → Each (λ t. Named t.1) items → Vectors.InSpan p f (combination (λ n. vector_of cols (row n)) items)
   items_vector [] a = record { items = []; gives = λ j. refl }
   items_vector (t ∷ items) a =
@@ -89,7 +89,7 @@ module _ {N K : Type 0} (p : ℕ) (Named : N → Type 0) (row : N → Poly) (Col
       }
 
   -- the vector of an element of the span
-  pub element-vector : (x : Poly) → InSpan p Named row x → Vectors.InSpan p f (vector_of cols x)
+  pub element-vector : (x : Poly) → InNamedSpan p Named row x → Vectors.InSpan p f (vector_of cols x)
   element-vector x s =
       let u = items_vector s.items s.named in
       record { items = u.items; gives = λ j. u.gives j ∙ (same (sym (vector-spread cols row s.items j)) ⊙ back (vector-alike cols x (spread row s.items) (alike_poly s.gives) j)).same }
@@ -102,7 +102,7 @@ module _ {N K : Type 0} (p : ℕ) (Named : N → Type 0) (row : N → Poly) (Col
     vector = λ j. back (record { same = s.gives j }) ⊙ combination-same f (λ k. vector_of cols (span.into k).element) s.items j (λ k. (span.into k).vector j) ⊙ same (sym (vector-spread cols (λ k. (span.into k).element) s.items j));
   }
     where
-      sum_in_span : (items : Comb K) → InSpan p Named row (spread (λ k. (span.into k).element) items)
+      sum_in_span : (items : Comb K) → InNamedSpan p Named row (spread (λ k. (span.into k).element) items)
       sum_in_span [] = span-zero p Named row
       sum_in_span (t ∷ items) = span-append p Named row (span-scale p Named row t.0 (span.into t.1).in_span) (sum_in_span items)
 
@@ -132,7 +132,7 @@ module _ {N K : Type 0} (p : ℕ) (Named : N → Type 0) (row : N → Poly) (Col
   at-col x j h = vector-get cols x j (leaf 0) h
 
   -- a pivot by its number, and by its column
-  pub pivot-number : (j : ℕ) → j < length cols → IsPivot p Named row (col cols j) → Vectors.IsPivot p f j
+  pub pivot-number : (j : ℕ) → j < length cols → IsPivotMonomial p Named row (col cols j) → Vectors.IsPivot p f j
   pivot-number j h v = record {
     element = vector_of cols v.element;
     in_span = element-vector v.element v.in_span;
@@ -145,7 +145,7 @@ module _ {N K : Type 0} (p : ℕ) (Named : N → Type 0) (row : N → Poly) (Col
       zero_mod : (p : ℕ) → 0 ≡ 0 % p
       zero_mod p = grind arith
 
-  pub number-pivot : (j : ℕ) → Vectors.IsPivot p f j → (j < length cols) × IsPivot p Named row (col cols j)
+  pub number-pivot : (j : ℕ) → Vectors.IsPivot p f j → (j < length cols) × IsPivotMonomial p Named row (col cols j)
   number-pivot j v =
       let u = vector-element v.element v.in_span in
       let z : (i : ℕ) → 0 % p ≡ 0 = λ i. grind arith in
@@ -193,7 +193,7 @@ module _ {N K : Type 0} (p : ℕ) (Named : N → Type 0) (row : N → Poly) (Col
   coefficient-col (t ∷ e) i h a = rw (same-col t.1 i a.0 h, coefficient-col e i h a.1)
 
   module _ (pos : 0 < p) (j : ℕ) (here : j < length cols) (v : ℕ → ℕ) (reduced : Vectors.IsReducedRow p f j v) (e : Comb ℕ) (entry : IsEntryRow p cols j v e) where
-    no-pivot : (i : ℕ) → i < length cols → (IsSameMod p (coefficient eqb e i) 0 → ⊥) → IsPivot p Named row (col cols i) → ⊥
+    no-pivot : (i : ℕ) → i < length cols → (IsSameMod p (coefficient eqb e i) 0 → ⊥) → IsPivotMonomial p Named row (col cols i) → ⊥
     no-pivot i h n w = elim (cases_eq i j) [
       | inl q ↦ (let t : eqb i j ≡ true = eq-eqb i j q in
           let one : IsSameMod p (v i) 1 = record { same = ap (λ k. v k % p) q ∙ reduced.one } in
@@ -206,8 +206,8 @@ module _ {N K : Type 0} (p : ℕ) (Named : N → Type 0) (row : N → Poly) (Col
     ]
 
     -- the entry has columns that are no pivots
-    pub entry-free : Each (λ s. Column s.1 × (IsPivot p Named row s.1 → ⊥)) (reindex (col cols) e)
-    entry-free = each-map (λ s. (s.1 < length cols) × (IsSameMod p (coefficient eqb e s.1) 0 → ⊥)) (λ s. Column s.1 × (IsPivot p Named row s.1 → ⊥)) _ e
+    pub entry-free : Each (λ s. Column s.1 × (IsPivotMonomial p Named row s.1 → ⊥)) (reindex (col cols) e)
+    entry-free = each-map (λ s. (s.1 < length cols) × (IsSameMod p (coefficient eqb e s.1) 0 → ⊥)) (λ s. Column s.1 × (IsPivotMonomial p Named row s.1 → ⊥)) _ e
         (λ s h. (column-at s.1 h.0, no-pivot s.1 h.0 h.1)) (each-both (λ s. s.1 < length cols) (λ s. IsSameMod p (coefficient eqb e s.1) 0 → ⊥) _ e (λ s h k. (h, k)) entry.places entry.kept)
 
     abbrev pub element : HasElement p Named row cols v
@@ -255,7 +255,7 @@ module _ {N K : Type 0} (p : ℕ) (Named : N → Type 0) (row : N → Poly) (Col
     ]
 
     -- and the column less its entry is in the span
-    pub entry-span : InSpan p Named row (difference p (unit (col cols j)) (reindex (col cols) e))
+    pub entry-span : InNamedSpan p Named row (difference p (unit (col cols j)) (reindex (col cols) e))
     entry-span = span-alike p Named row (alike_poly at_monomial) element.in_span
 
 -- the entries of a row are the coefficients of its combination
@@ -311,14 +311,14 @@ module _ (p : ℕ) (Column : Tree → Type 0) (cols : List Tree) (are : AreColum
           (same (sym (vector-get cols x w.0 (leaf 0) w.1)) ⊙ v w.0 ⊙ same (vector-get cols y w.0 (leaf 0) w.1))
 
   -- names whose vectors span those of all names have rows that span all rows
-  pub names-span : {N : Type 0} (Named : N → Type 0) (row : N → Poly) → ((x : Poly) → InSpan p Named row x → (m : Tree) → (IsZeroAt p x m → ⊥) → Column m) →
+  pub names-span : {N : Type 0} (Named : N → Type 0) (row : N → Poly) → ((x : Poly) → InNamedSpan p Named row x → (m : Tree) → (IsZeroAt p x m → ⊥) → Column m) →
       (names : List N) (d : N) (f : ℕ → ℕ → ℕ) → Each Named names →
       ((k j : ℕ) → k < length names → IsSameMod p (f k j) (vector_of cols (row (get_or names k d)) j)) →
       ((k j : ℕ) → length names ≤ k → IsSameMod p (f k j) 0) →
-      (n : N) → Named n → Vectors.InSpan p f (vector_of cols (row n)) → InSpan p (Contains names) row (row n)
+      (n : N) → Named n → Vectors.InSpan p f (vector_of cols (row n)) → InNamedSpan p (Contains names) row (row n)
   names-span {N = N} Named row columns names d f named rows past n h s =
       let family : HaveSpan p (Contains names) row cols f = rows-have-span p (Contains names) row cols names d f (contains-each names) (λ k c. c) rows past in
-      let fewer : (x : Poly) → InSpan p (Contains names) row x → (m : Tree) → (IsZeroAt p x m → ⊥) → Column m = λ x r. columns x (record {
+      let fewer : (x : Poly) → InNamedSpan p (Contains names) row x → (m : Tree) → (IsZeroAt p x m → ⊥) → Column m = λ x r. columns x (record {
         items = r.items;
         named = each-from _ _ r.items (λ t c. contained names named t.1 c) r.named;
         gives = r.gives;

@@ -11,10 +11,9 @@ use Rattle.alb_problem.proofs.Evaluate.{weigh-swap}
 use Rattle.gf_sums.proofs.Alike.{Alike, equal, itself, turned, joined, append-alike, multiply-append-left, multiply-append-right, multiply-scale-left, multiply-scale-right, weigh-flat, weigh-reindex}
 use Rattle.alb_poly.specs.Poly.{Poly, product}
 use Rattle.alb_mono.specs.declared.side.Side.TheVariants.{Left, Right}
-use Rattle.alb_poly.specs.Context.{beside}
+use Rattle.alb_poly.specs.Consequence.{beside, IsConsequence}
 use Rattle.alb_poly.specs.Instance.{Form}
-use Rattle.alb_poly.specs.Consequence.{IsConsequence}
-use Rattle.alb_table.specs.Leading.{difference, IsCongruent, outer}
+use Rattle.alb_table.specs.Right.{difference, IsCongruent, outer}
 use Rattle.alb_mono.specs.Listing.{Each}
 use Rattle.alb_poly.specs.Textbook.{free_product}
 use Rattle.alb_poly.proofs.Consequence.{poly_alike, consequence-same, consequence-zero, consequence-append, consequence-scale, consequence-beside}

@@ -9,7 +9,7 @@ use Rattle.alb_mono.specs.Tree.{cmp_types}
 use Rattle.alb_mono.proofs.ListingLemmas.{each-at}
 use Rattle.alb_mono.proofs.Order.{cmp_types_total}
 use Rattle.alb_table.specs.declared.stored.Stored.{Stored}
-use Rattle.alb_table.specs.PartView.{PartView}
+use Rattle.alb_table.specs.Table.{PartView}
 use Rattle.alb_table.specs.Views.{part_number, view_of}
 use Rattle.alb_linear.proofs.IdentityLemmas.{list_eq-itself}
 use Rattle.alb_table.proofs.PartLemmas.{list_eq-other, map_at, no_part, length-views}

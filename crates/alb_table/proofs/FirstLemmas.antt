@@ -5,17 +5,13 @@ use Rattle.std.specs.List.{flat_map}
 use Rattle.std.proofs.lemmas.Bool.Decides.{nat_tests}
 use Rattle.std.proofs.lemmas.List.{append-nil, take_all, length-map}
 use Rattle.std.proofs.lemmas.List.Elements.{All-head, All-tail}
-use Rattle.gf_field.specs.Primes.{IsInTable}
+use Rattle.gf_field.specs.Modular.{IsInTable}
 use Rattle.alb_mono.specs.Listing.{Each}
-use Rattle.alb_mono.specs.Tree.{leaf, count, listed, type_of}
-use Rattle.alb_mono.specs.Types.{falling, types_of, IsTypeWithin, rising, type_minus}
+use Rattle.alb_mono.specs.Tree.{leaf, count, listed, type_of, falling, types_of, IsTypeWithin, rising, type_minus}
 use Rattle.alb_mono.proofs.ListingLemmas.{each-weaker}
 use Rattle.alb_mono.proofs.TypesListing.{types_of-listing}
 use Rattle.alb_table.specs.declared.part.Elem.TheVariants.{Gen}
-use Rattle.alb_table.specs.PartView.{PartView, first_of, dim_of, elems}
-use Rattle.alb_table.specs.Grid.{rectangle}
-use Rattle.alb_table.specs.Entry.{products}
-use Rattle.alb_table.specs.Table.{IsTable, IsTarget, IsPartOf, first_parts, first_table, count_products, count_coefficients}
+use Rattle.alb_table.specs.Table.{PartView, first_of, dim_of, elems, rectangle, products, IsTable, IsTarget, IsPartOf, first_parts, first_table, count_products, count_coefficients}
 use Rattle.alb_table.proofs.PartLemmas.{sum-cons}
 use Rattle.alb_table.proofs.RangeLemmas.{ats}
 use Rattle.alb_table.proofs.TableLemmas.{length_gens}

@@ -1,10 +1,9 @@
 -- The table of degree 1 is right.
 use Rattle.std.proofs.Common.{◌≡◌, ℕ, zero, suc, ◌+◌, ◌<◌, ◌≤◌, true, false, List, [], ◌∷◌, ◌++◌, map, length, get_or, sym, refl, ap, ◌∙◌, arith, inl, inr, subst, sum, append_assoc}
 use Rattle.std.proofs.lemmas.Bool.{cases_Bool}
-use Rattle.gf_field.specs.Primes.{IsInTable}
+use Rattle.gf_field.specs.Modular.{IsInTable}
 use Rattle.alb_mono.specs.Listing.{Each, IsIn}
-use Rattle.alb_mono.specs.Tree.{Tree, leaf, type_of}
-use Rattle.alb_mono.specs.Types.{types_of, rising}
+use Rattle.alb_mono.specs.Tree.{Tree, leaf, type_of, types_of, rising}
 use Rattle.std.proofs.lemmas.List.{append-nil}
 use Rattle.alb_table.proofs.Within.{test_from_below}
 use Rattle.alb_mono.proofs.TypesListing.{types_of-listing}
@@ -13,9 +12,7 @@ use Rattle.alb_poly.specs.Poly.{list_eq}
 use Rattle.alb_poly.specs.Consequence.{AreMultilinear}
 use Rattle.alb_poly.specs.Instance.{Form}
 use Rattle.alb_table.specs.declared.part.Elem.TheVariants.{Gen}
-use Rattle.alb_table.specs.PartView.{PartView, elems, first_of, dim_of, origins_at, monos_after, mono_at}
-use Rattle.alb_table.specs.Table.{IsTable, IsTarget, IsPartOf, first_parts, first_table}
-use Rattle.alb_table.specs.Limits.{most_of_type}
+use Rattle.alb_table.specs.Table.{PartView, elems, first_of, dim_of, origins_at, monos_after, mono_at, IsTable, IsTarget, IsPartOf, first_parts, first_table, most_of_type}
 use Rattle.alb_table.specs.Right.{AreHigh, IsOfType, IsTypeTo}
 use Rattle.alb_table.specs.RightTable.{IsRightTable, basis_monos, mono_entry}
 use Rattle.alb_table.proofs.FirstLemmas.{IsUnit, first_units, first_is_table, length_first, first_elems, first_products, first_coefficients}

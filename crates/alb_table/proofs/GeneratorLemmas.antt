@@ -8,11 +8,10 @@ use Rattle.std.proofs.lemmas.List.Kept.{AllPairs-cons}
 use Rattle.gf_field.proofs.Table.{IsPrime-from_table}
 use Rattle.alb_mono.specs.Listing.{Each}
 use Rattle.alb_mono.proofs.ListingLemmas.{each-append}
-use Rattle.alb_poly.specs.Algebra.{unit}
+use Rattle.alb_poly.specs.Textbook.{unit}
 use Rattle.alb_rows.specs.Row.{Cells, comb, IsRowOver}
-use Rattle.alb_table.specs.PartView.{elems}
-use Rattle.alb_table.specs.Table.{Table, IsTable}
-use Rattle.alb_table.specs.Value.{IsVector, vectors, generator_vector}
+use Rattle.alb_table.specs.Table.{elems, Table, IsTable}
+use Rattle.alb_table.specs.Value.{IsBasisRow, vectors, generator_vector}
 use Rattle.alb_table.proofs.TableLemmas.{long_enough}
 use Rattle.std.proofs.lemmas.Bool.{cases_lt}
 
@@ -33,9 +32,9 @@ single_row p j h = record {
   residues = All-cons (λ (cell : ℕ × ℕ). cell.1 < p) (j, 1) [] h (All-nil _);
 }
 
-pub unit_row : (p n gens k : ℕ) (r : Cells) → 1 < p → gens ≤ n → k < gens → r ≡ (k, 1) ∷ [] → IsVector p n r
+pub unit_row : (p n gens k : ℕ) (r : Cells) → 1 < p → gens ≤ n → k < gens → r ≡ (k, 1) ∷ [] → IsBasisRow p n r
 unit_row p n gens k r h g l e =
-    subst (IsVector p n) (sym e) (record { row = single_row p k h; below = All-cons (λ (cell : ℕ × ℕ). cell.0 < n) (k, 1) [] (omega arith) (All-nil _) })
+    subst (IsBasisRow p n) (sym e) (record { row = single_row p k h; below = All-cons (λ (cell : ℕ × ℕ). cell.0 < n) (k, 1) [] (omega arith) (All-nil _) })
 
 pub unit_value : (gens k : ℕ) (r : Cells) → k < gens → r ≡ (k, 1) ∷ [] → comb r ≡ generator_vector gens k
 unit_value gens k r l e =

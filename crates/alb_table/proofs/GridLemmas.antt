@@ -1,17 +1,16 @@
 -- The place of a product among the products of its type.
-use Rattle.std.proofs.Common.{◌≡◌, ℕ, zero, suc, ◌+◌, ◌-◌, ◌*◌, ◌<◌, ◌≤◌, ◌==◌, Bool, true, false, List, [], ◌∷◌, ◌++◌, map, length, drop, sym, refl, ap, ◌∙◌, arith, inl, inr, ◌⊎◌}
+use Rattle.std.proofs.Common.{◌≡◌, ℕ, zero, suc, ◌+◌, ◌-◌, ◌*◌, ◌<◌, ◌≤◌, ◌==◌, Bool, true, false, List, [], ◌∷◌, ◌++◌, map, length, drop, sym, refl, ap, ◌∙◌, arith, inl, inr, ◌⊎◌, length-append, length-drop, append_assoc, subst, get_or}
 use Rattle.std.specs.Prelude.{nat_le, nat_lt, ◌&&◌, Some, None, slice_get}
 use Rattle.std.specs.List.{flat_map}
 use Rattle.std.proofs.lemmas.Bool.{cases_Bool}
 use Rattle.std.proofs.lemmas.Bool.Decides.{nat_tests}
-use Rattle.std.proofs.Common.{length-append, length-drop, append_assoc, subst}
 use Rattle.std.proofs.lemmas.List.{drop-drop}
 use Rattle.std.proofs.lemmas.Nat.{mul-le}
-use Rattle.std.proofs.Common.{get_or}
-use Rattle.alb_mono.specs.Types.{rising}
+use Rattle.alb_mono.specs.Tree.{rising}
 use Rattle.alb_mono.proofs.Both.{both_tests}
 use Rattle.alb_table.specs.declared.grid.Grid.{Grid}
-use Rattle.alb_table.specs.Grid.{same_pair, rectangle, cells_of, find_entry, OffsetsFrom, covers, first_cover, place_in}
+use Rattle.alb_table.specs.Grid.{cells_of, OffsetsFrom, covers, first_cover, place_in}
+use Rattle.alb_table.specs.Table.{same_pair, rectangle, find_entry}
 
 -- no key of the list is (b, c)
 abbrev Misses : ℕ → ℕ → List (ℕ × ℕ) → Type 0

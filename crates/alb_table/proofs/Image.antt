@@ -8,28 +8,26 @@ use Rattle.gf_field.proofs.Mod.{same, ◌⊙◌}
 use Rattle.alb_mono.specs.Tree.{Tree, leaf, node, count, AreBelow}
 use Rattle.gf_sums.specs.Sums.{total, Comb, weigh, scale, reindex}
 use Rattle.gf_sums.proofs.Totals.{total-equal, weigh-append, weigh-scale, weigh-equal}
-use Rattle.alb_poly.specs.Algebra.{evaluate, unit}
+use Rattle.alb_poly.specs.Textbook.{evaluate, unit}
 use Rattle.alb_problem.proofs.Evaluate.{weigh-swap}
-use Rattle.alb_poly.specs.Instance.{run, fill, Form, instance, IsMultilinear, IsMultilinearForm}
+use Rattle.alb_poly.specs.Instance.{total_from, fill, Form, instance, IsMultilinear, IsMultilinearForm}
 use Rattle.gf_sums.proofs.Alike.{Alike, equal, itself, turned, joined, weigh-reindex, multiply-alike}
 use Rattle.alb_poly.specs.Poly.{Poly}
 use Rattle.alb_mono.specs.declared.side.Side.{Side}
 use Rattle.alb_mono.specs.declared.side.Side.TheVariants.{Left, Right}
-use Rattle.alb_poly.specs.Context.{beside, within}
-use Rattle.alb_poly.specs.Consequence.{form_at, Item, IsItem, AreItems, item_value, IsConsequence, AreMultilinear}
+use Rattle.alb_poly.specs.Consequence.{beside, within, form_at, Item, IsItem, AreItems, item_value, IsConsequence, AreMultilinear}
 use Rattle.alb_mono.specs.Listing.{Each}
 use Rattle.alb_poly.proofs.Multilinear.{each-from, each-map, each-flat, leaves-multilinear, multilinear-below}
 use Rattle.alb_poly.proofs.Parts.{multilinear_at, count-leaves, weigh-each}
 use Rattle.alb_poly.proofs.Consequence.{itself', consequence-zero, consequence-append, consequence-scale, value, weigh-item, alike_poly, poly_alike, consequence-instance}
-use Rattle.alb_table.specs.Leading.{SameType, IsCongruent}
+use Rattle.alb_table.specs.Right.{SameType, IsCongruent, AreHigh, mono_value, poly_value, IsBasis, IsPart}
 use Rattle.alb_table.proofs.Types.{type-turned, type-node, same_type, same_type-whole, same_type-sound, same_type-respects}
 use Rattle.alb_table.proofs.Coefficients.{keep}
 use Rattle.alb_problem.proofs.FormValue.{count-multilinear}
 use Rattle.alb_table.proofs.Kept.{Passes, Kept, consequence-kept}
 use Rattle.alb_table.proofs.Congruent.{weigh-outer, congruent-alike, congruent-joined, congruent-product, congruent-scale, congruent-flat}
-use Rattle.alb_table.specs.Right.{AreHigh, mono_value, poly_value, IsBasis, IsPart}
 use Rattle.alb_table.proofs.Bases.{IsTable, IsNext, IsBlock, IsTuple}
-use Rattle.alb_table.specs.Block.{image, spread, block_image, InSpan, tuple_row}
+use Rattle.alb_table.specs.Block.{image, spread, block_image, InNamedSpan, tuple_row}
 use Rattle.alb_table.proofs.Values.{each-scale, each-both, value-stands, units-alike, consequence-value, value-normal}
 use Rattle.alb_table.proofs.Spans.{weigh-spread, spread-alike, spread-append, spread-scale, spread-each, span-alike, span-zero, span-append, span-scale, span-one, row_at, rows-span}
 
@@ -59,7 +57,7 @@ image-alike pair prod u v n (node l r) b h =
 pub high_node : (n : ℕ) (k : ℕ) → 2 ≤ n → IsMultilinear n (leaf k) → ⊥
 high_node n k h m = absurd (omega (arith, m (λ _. 1), run-ones 0 n))
   where
-    run-ones : (k n : ℕ) → run (λ _. 1) k n ≡ n
+    run-ones : (k n : ℕ) → total_from (λ _. 1) k n ≡ n
     run-ones k zero = refl
     run-ones k (suc n) = omega (arith, run-ones (suc k) n)
 
@@ -256,7 +254,7 @@ module _ (p : ℕ) (pos : 0 < p) (fs : List Form) (multi : AreMultilinear fs) (h
       }
 
   pub instance-spans : (i : ℕ) (ms : List Tree) → i < length fs → length ms ≡ (form_at fs i).degree → Each (λ t. SameType (fill ms t.1) z) (form_at fs i).terms →
-      InSpan p (IsTuple fs Base z) (tuple_row fs entry) (block_image entry (instance (form_at fs i) ms))
+      InNamedSpan p (IsTuple fs Base z) (tuple_row fs entry) (block_image entry (instance (form_at fs i) ms))
   instance-spans i ms h len a =
       let f : Form = form_at fs i in
       span-alike p (IsTuple fs Base z) (tuple_row fs entry) (turned (instance-row i ms h))
@@ -279,7 +277,7 @@ module _ (p : ℕ) (pos : 0 < p) (fs : List Form) (multi : AreMultilinear fs) (h
   item-spans : (coef form : ℕ) (args : List Tree) (context : List (Side × Tree)) →
       IsItem fs (record { coef = coef; form = form; args = args; context = context }) →
       Each (λ t. SameType (within context (fill args t.1)) z) (form_at fs form).terms →
-      InSpan p (IsTuple fs Base z) (tuple_row fs entry) (block_image entry (item_value fs (record { coef = coef; form = form; args = args; context = context })))
+      InNamedSpan p (IsTuple fs Base z) (tuple_row fs entry) (block_image entry (item_value fs (record { coef = coef; form = form; args = args; context = context })))
   item-spans coef form args [] h a =
       let it : Item = record { coef = coef; form = form; args = args; context = [] } in
       span-alike p (IsTuple fs Base z) (tuple_row fs entry)
@@ -291,7 +289,7 @@ module _ (p : ℕ) (pos : 0 < p) (fs : List Form) (multi : AreMultilinear fs) (h
       span-alike p (IsTuple fs Base z) (tuple_row fs entry) (turned (context-vanishes coef form args s c h a)) (span-zero p (IsTuple fs Base z) (tuple_row fs entry))
 
   items-span : (its : List Item) → AreItems fs its → Each (Passes fs (same_type z)) its →
-      InSpan p (IsTuple fs Base z) (tuple_row fs entry) (block_image entry (value fs its))
+      InNamedSpan p (IsTuple fs Base z) (tuple_row fs entry) (block_image entry (value fs its))
   items-span [] h a = span-zero p (IsTuple fs Base z) (tuple_row fs entry)
   items-span (it ∷ its) h a =
       span-alike p (IsTuple fs Base z) (tuple_row fs entry) (turned (spread-append _ (item_value fs it) (value fs its)))
@@ -301,7 +299,7 @@ module _ (p : ℕ) (pos : 0 < p) (fs : List Form) (multi : AreMultilinear fs) (h
       (items-span its h.1 a.1))
 
   -- the image of a consequence of the block is a combination of rows
-  pub image-spans : (g : Poly) → IsConsequence p fs g → Each (λ t. SameType t.1 z) g → InSpan p (IsTuple fs Base z) (tuple_row fs entry) (block_image entry g)
+  pub image-spans : (g : Poly) → IsConsequence p fs g → Each (λ t. SameType t.1 z) g → InNamedSpan p (IsTuple fs Base z) (tuple_row fs entry) (block_image entry g)
   image-spans g c a =
       let k : Kept p fs (same_type z) g = consequence-kept p fs multi (same_type z) (same_type-respects z) g c in
       let e : keep (same_type z) g ≡ g = filter-all (λ t. same_type z t.1) g (each-from _ _ g (λ t q. same_type-whole z t.1 (type-turned q)) a) in
@@ -335,7 +333,7 @@ module _ (p : ℕ) (pos : 0 < p) (fs : List Form) (multi : AreMultilinear fs) (h
       consequence-append p fs (consequence-scale p fs t.0 (consequence-instance p fs t.1.0 t.1.1 a.0.form a.0.full)) (sum-consequence items a.1)
 
   -- an element of the span is the image of a consequence of the block
-  pub span-image : (x : Poly) → InSpan p (IsTuple fs Base z) (tuple_row fs entry) x → IsImage p fs z entry x
+  pub span-image : (x : Poly) → InNamedSpan p (IsTuple fs Base z) (tuple_row fs entry) x → IsImage p fs z entry x
   unfolding tuple_polynomial
   span-image x s = record {
     polynomial = spread tuple_polynomial s.items;

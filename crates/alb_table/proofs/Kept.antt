@@ -9,14 +9,13 @@ use Rattle.alb_mono.specs.Tree.{Tree}
 use Rattle.gf_sums.specs.Sums.{Comb}
 use Rattle.gf_sums.proofs.Alike.{Alike, equal, itself, joined, append-alike}
 use Rattle.alb_poly.specs.Poly.{Poly}
-use Rattle.alb_poly.specs.Context.{within}
+use Rattle.alb_poly.specs.Consequence.{within, Item, form_at, IsItem, item_value, AreItems, IsConsequence, AreMultilinear}
 use Rattle.alb_poly.specs.Instance.{fill, Form, IsMultilinear}
-use Rattle.alb_poly.specs.Consequence.{Item, form_at, IsItem, item_value, AreItems, IsConsequence, AreMultilinear}
 use Rattle.alb_mono.specs.Listing.{Each}
 use Rattle.alb_poly.proofs.Multilinear.{each-from}
 use Rattle.alb_poly.proofs.Parts.{multilinear_at, weigh-keep, weigh-each, weigh-zero}
 use Rattle.alb_poly.proofs.Consequence.{value, weigh-item, alike_poly, poly_alike}
-use Rattle.alb_table.specs.Leading.{SameType}
+use Rattle.alb_table.specs.Right.{SameType}
 use Rattle.alb_table.proofs.Types.{type-within}
 use Rattle.alb_table.proofs.Coefficients.{keep}
 

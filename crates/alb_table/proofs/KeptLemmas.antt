@@ -1,18 +1,17 @@
 -- The stores of new tables.
 use Rattle.std.proofs.Common.{◌≡◌, ℕ, suc, ◌+◌, ◌-◌, ◌<◌, List, [], ◌∷◌, ◌++◌, map, length, sym, ap, ◌∙◌, arith, subst, sum}
-use Rattle.gf_field.specs.Primes.{IsInTable}
+use Rattle.gf_field.specs.Modular.{IsInTable}
 use Rattle.alb_mono.specs.Listing.{Each}
 use Rattle.std.specs.List.{flat_map}
-use Rattle.alb_mono.specs.Types.{types_of, IsTypeWithin, rising, splits, type_minus}
+use Rattle.alb_mono.specs.Tree.{types_of, IsTypeWithin, rising, splits, type_minus}
 use Rattle.alb_mono.proofs.TypesListing.{types_of-listing}
 use Rattle.alb_table.specs.Grid.{Rises}
 use Rattle.alb_table.specs.Stored.{grids_from}
 use Rattle.alb_table.proofs.RiseLemmas.{grids_rise}
 use Rattle.alb_mono.proofs.ListingLemmas.{each-weaker, each-both}
-use Rattle.alb_table.specs.PartView.{PartView}
-use Rattle.alb_table.specs.Table.{Table, IsTable, IsTarget, IsPartOf, IsCountable, first_parts, extended}
+use Rattle.alb_table.specs.Table.{PartView, Table, IsTable, IsTarget, IsPartOf, IsCountable, first_parts, extended}
 use Rattle.alb_table.specs.declared.store.Store.{Store}
-use Rattle.alb_table.specs.Views.{views, IsFull, IsKept, Grows}
+use Rattle.alb_table.specs.Views.{views, IsFull, IsKeptTable, GrowsStore}
 use Rattle.alb_table.proofs.PartLemmas.{grows_store}
 use Rattle.alb_table.proofs.RangeLemmas.{ats}
 use Rattle.alb_table.proofs.TableLemmas.{extend_table, new_degrees, old_degrees, each-unmap}
@@ -28,8 +27,8 @@ are_full t parts new k e h =
     (subst (Each (IsTypeWithin t.target (t.degree + 1))) (sym e) (types_of-listing t.target (t.degree + 1)).each)) h)
 
 pub kept_extended : (t : Table) (old new : Store) (more : List PartView) → IsTable t → views old ≡ t.parts → t.degree < sum t.target → ats more ≡ types_of t.target (t.degree + 1) →
-    Each (IsPartOf t.p t.parts (t.parts ++ more)) more → IsCountable (t.parts ++ more) → Grows old more new →
-    IsKept (record { p = t.p; target = t.target; degree = t.degree + 1; parts = views new }) new
+    Each (IsPartOf t.p t.parts (t.parts ++ more)) more → IsCountable (t.parts ++ more) → GrowsStore old more new →
+    IsKeptTable (record { p = t.p; target = t.target; degree = t.degree + 1; parts = views new }) new
 kept_extended t old new more k o room types parts countable g =
     let e : views new ≡ t.parts ++ more = g.parts_are ∙ ap (λ (ps : List PartView). ps ++ more) o in
     let x : IsTable (extended t more) = extend_table t more k room types parts countable in
@@ -58,8 +57,8 @@ first_degrees : (n k : ℕ) (ts : List (List ℕ)) → Each (IsUnit n) ts → Ea
 first_degrees n k [] u = tt
 first_degrees n k (t ∷ ts) u = (u.0.one, first_degrees n (suc k) ts u.1)
 
-pub kept_first : (p : ℕ) (target : List ℕ) (old new : Store) → IsInTable p → IsTarget target → views old ≡ [] → Grows old (first_parts 0 (types_of target 1)) new →
-    IsKept (record { p = p; target = target; degree = 1; parts = views new }) new
+pub kept_first : (p : ℕ) (target : List ℕ) (old new : Store) → IsInTable p → IsTarget target → views old ≡ [] → GrowsStore old (first_parts 0 (types_of target 1)) new →
+    IsKeptTable (record { p = p; target = target; degree = 1; parts = views new }) new
 kept_first p target old new f g o w =
     let e : views new ≡ first_parts 0 (types_of target 1) = w.parts_are ∙ ap (λ (ps : List PartView). ps ++ first_parts 0 (types_of target 1)) o in
     let table : IsTable (record { p = p; target = target; degree = 1; parts = views new }) =

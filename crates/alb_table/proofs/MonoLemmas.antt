@@ -7,9 +7,7 @@ use Rattle.alb_mono.specs.Tree.{Tree, leaf, node, count, listed, type_of}
 use Rattle.alb_mono.proofs.ListingLemmas.{each-at, each-weaker}
 use Rattle.alb_table.specs.declared.part.Elem.{Elem}
 use Rattle.alb_table.specs.declared.part.Elem.TheVariants.{Gen, Prod}
-use Rattle.alb_table.specs.PartView.{PartView, elems, type_at, mono_of, monos_after, monos, mono_at}
-use Rattle.alb_table.specs.Entry.{products}
-use Rattle.alb_table.specs.Table.{Table, IsTable, IsElementOf, IsPartOf, FactorsBelow, GeneratorBelow}
+use Rattle.alb_table.specs.Table.{PartView, elems, type_at, mono_of, monos_after, monos, mono_at, products, Table, IsTable, IsElementOf, IsPartOf, FactorsBelow, GeneratorBelow}
 use Rattle.alb_table.specs.Grid.{ArePairsBelow}
 use Rattle.alb_table.proofs.PartLemmas.{elems_step, sum-plus}
 use Rattle.alb_table.proofs.RangeLemmas.{type_first, type_later, product_of, type_of_range, degrees_ascend}

@@ -14,13 +14,12 @@ use Rattle.gf_sums.specs.Sums.{coefficient, reindex}
 use Rattle.gf_sums.proofs.Alike.{Alike, itself}
 use Rattle.alb_poly.specs.Poly.{Poly}
 use Rattle.alb_mono.specs.declared.side.Side.TheVariants.{Left, Right}
-use Rattle.alb_poly.specs.Context.{beside}
+use Rattle.alb_poly.specs.Consequence.{beside, IsConsequence, AreMultilinear}
 use Rattle.alb_poly.specs.Instance.{Form}
-use Rattle.alb_poly.specs.Consequence.{IsConsequence, AreMultilinear}
 use Rattle.alb_mono.specs.Listing.{Each}
 use Rattle.alb_poly.proofs.Multilinear.{each-from, each-map}
 use Rattle.alb_poly.proofs.Consequence.{tree_tells, alike_poly, poly_alike, consequence-same, consequence-beside}
-use Rattle.alb_table.specs.Leading.{SameType, IsZeroAt, LeadsWith, IsLeading, IsNormal}
+use Rattle.alb_table.specs.Right.{SameType, IsZeroAt, LeadsWith, IsLeading, IsNormal}
 use Rattle.alb_table.proofs.Types.{type-itself, type-turned, type-joined, type-node, type-listed, same_type, same_type-whole, same_type-sound, same_type-respects}
 use Rattle.alb_table.proofs.Coefficients.{zero_or, keep, each-filter, filter-each, coefficient-kept, each-coefficient, top-found}
 use Rattle.alb_table.proofs.Kept.{consequence-keep}

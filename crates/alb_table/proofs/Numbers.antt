@@ -1,18 +1,17 @@
 -- Values by numbers of basis elements are values by the elements.
-use Rattle.std.proofs.Common.{◌≡◌, ℕ, zero, suc, ◌*◌, ◌<◌, ◌≤◌, false, List, [], ◌∷◌, ◌++◌, length, refl, ap, ◌∙◌, arith, Bool}
+use Rattle.std.proofs.Common.{◌≡◌, ℕ, zero, suc, ◌*◌, ◌<◌, ◌≤◌, false, List, [], ◌∷◌, ◌++◌, length, refl, ap, ◌∙◌, arith, Bool, inl, inr}
 use Rattle.std.specs.List.{flat_map, IsDistinct, AllByRecursion}
 use Rattle.std.proofs.lemmas.List.{map-append, get_or_append_left}
 use Rattle.std.proofs.lemmas.Bool.{cases_Bool}
-use Rattle.std.proofs.Common.{inl, inr}
 use Rattle.alb_mono.specs.Tree.{Tree, leaf, node, same_tree, AreBelow}
 use Rattle.gf_sums.specs.Sums.{Comb, scale, reindex, multiply, coefficient}
-use Rattle.alb_poly.specs.Algebra.{evaluate, evaluate_poly, unit}
+use Rattle.alb_poly.specs.Textbook.{evaluate, evaluate_poly, unit}
 use Rattle.alb_poly.specs.Poly.{Poly}
 use Rattle.alb_poly.specs.Instance.{Form, IsMultilinearForm}
 use Rattle.alb_mono.specs.Listing.{Each}
 use Rattle.alb_poly.proofs.Multilinear.{each-from, multilinear-below}
 use Rattle.alb_poly.proofs.Consequence.{tree_tells}
-use Rattle.alb_table.specs.Right.{poly_value, mono_of, place_of, entry_by}
+use Rattle.alb_table.specs.Right.{poly_value, basis_mono, place_of, entry_by}
 use Rattle.alb_table.specs.Block.{image, spread, form_row}
 use Rattle.alb_table.proofs.Values.{each-multiply}
 
@@ -21,7 +20,7 @@ pub record IsNumbered (n : ℕ) (monos : List Tree) (product : ℕ → ℕ → C
   pub different : IsDistinct same_tree monos
   pub entries : (b c : ℕ) → b < length monos → c < length monos → Each (λ t. t.1 < length monos) (product b c)
   pub many : n ≤ length monos
-  pub generators : (k : ℕ) → k < n → mono_of monos k ≡ leaf k
+  pub generators : (k : ℕ) → k < n → basis_mono monos k ≡ leaf k
 
 reindex-scale : {I J : Type 0} (h : I → J) (c : ℕ) (f : Comb I) → reindex h (scale c f) ≡ scale c (reindex h f)
 reindex-scale h c [] = refl
@@ -82,13 +81,13 @@ module _ {I J : Type 0} (P : I → Type 0) (h : I → J) (prod : I → I → Com
 
 -- ---- a table over numbers
 
-different-head : (m : Tree) (ms : List Tree) (j : ℕ) → AllByRecursion (λ y. same_tree m y ≡ false) ms → j < length ms → same_tree m (mono_of ms j) ≡ false
+different-head : (m : Tree) (ms : List Tree) (j : ℕ) → AllByRecursion (λ y. same_tree m y ≡ false) ms → j < length ms → same_tree m (basis_mono ms j) ≡ false
 different-head m [] j a h = absurd (omega arith)
 different-head m (x ∷ ms) zero a h = a.0
 different-head m (x ∷ ms) (suc j) a h = different-head m ms j a.1 (omega arith)
 
 -- the place of a basis monomial is its number
-pub place-mono : (monos : List Tree) (b : ℕ) → IsDistinct same_tree monos → b < length monos → place_of monos (mono_of monos b) ≡ b
+pub place-mono : (monos : List Tree) (b : ℕ) → IsDistinct same_tree monos → b < length monos → place_of monos (basis_mono monos b) ≡ b
 unfolding IsDistinct
 place-mono [] b d h = absurd (omega arith)
 place-mono (m ∷ ms) zero d h = rw (tree_tells.whole m)
@@ -97,21 +96,21 @@ place-mono (m ∷ ms) (suc b) d h =
     rw (different-head m ms b d.0 k) (ap suc (place-mono ms b d.1 k))
 
 module _ (n : ℕ) (monos : List Tree) (product : ℕ → ℕ → Comb ℕ) (numbered : IsNumbered n monos product) where
-  pub entry-respects : (i j : ℕ) → i < length monos → j < length monos → reindex (mono_of monos) (product i j) ≡ entry_by monos product (mono_of monos i) (mono_of monos j)
+  pub entry-respects : (i j : ℕ) → i < length monos → j < length monos → reindex (basis_mono monos) (product i j) ≡ entry_by monos product (basis_mono monos i) (basis_mono monos j)
   entry-respects i j h k = rw (place-mono monos i numbered.different h, place-mono monos j numbered.different k)
 
   -- the value over numbers is the value over monomials
-  pub value-by_numbers : (g : Poly) → Each (λ t. AreBelow n t.1) g → reindex (mono_of monos) (evaluate_poly product (λ k. unit k) g) ≡ poly_value (entry_by monos product) g
-  value-by_numbers g a = poly-reindex (λ i. i < length monos) (mono_of monos) product (entry_by monos product) numbered.entries entry-respects
+  pub value-by_numbers : (g : Poly) → Each (λ t. AreBelow n t.1) g → reindex (basis_mono monos) (evaluate_poly product (λ k. unit k) g) ≡ poly_value (entry_by monos product) g
+  value-by_numbers g a = poly-reindex (λ i. i < length monos) (basis_mono monos) product (entry_by monos product) numbered.entries entry-respects
       (λ k. unit k) (λ k. unit (leaf k)) n (λ k h. (let m = numbered.many in omega arith, tt)) (λ k h. ap unit (numbered.generators k h)) g a
 
   -- the row over pairs of numbers is the row over monomials
   pub row-by_numbers : (b : ℕ → ℕ) (f : Form) → IsMultilinearForm f → ((k : ℕ) → k < f.degree → b k < length monos) →
-      reindex (λ (q : ℕ × ℕ). node (mono_of monos q.0) (mono_of monos q.1)) (form_row (λ i j. (i, j)) product b f)
-      ≡ form_row node (entry_by monos product) (λ k. mono_of monos (b k)) f
-  row-by_numbers b f m h = images-reindex (λ i. i < length monos) (mono_of monos) product (entry_by monos product) numbered.entries entry-respects
-      (λ k. unit (b k)) (λ k. unit (mono_of monos (b k))) f.degree (λ k l. (h k l, tt)) (λ k l. refl)
-      (λ i j. (i, j)) node (λ (q : ℕ × ℕ). node (mono_of monos q.0) (mono_of monos q.1)) (λ i j. refl)
+      reindex (λ (q : ℕ × ℕ). node (basis_mono monos q.0) (basis_mono monos q.1)) (form_row (λ i j. (i, j)) product b f)
+      ≡ form_row node (entry_by monos product) (λ k. basis_mono monos (b k)) f
+  row-by_numbers b f m h = images-reindex (λ i. i < length monos) (basis_mono monos) product (entry_by monos product) numbered.entries entry-respects
+      (λ k. unit (b k)) (λ k. unit (basis_mono monos (b k))) f.degree (λ k l. (h k l, tt)) (λ k l. refl)
+      (λ i j. (i, j)) node (λ (q : ℕ × ℕ). node (basis_mono monos q.0) (basis_mono monos q.1)) (λ i j. refl)
       f.terms (each-from _ _ f.terms (λ t q. multilinear-below f.degree t.1 q) m)
 
 -- ---- a longer list of basis monomials
@@ -123,7 +122,7 @@ place-append (m ∷ monos) news x h = elim (cases_Bool (same_tree m x)) [
   | inr e ↦ rw e (ap suc (place-append monos news x (let k : suc (place_of monos x) < suc (length monos) = rw e at h in omega arith)))
 ]
 
-reindex-longer : (monos news : List Tree) (f : Comb ℕ) → Each (λ t. t.1 < length monos) f → reindex (mono_of (monos ++ news)) f ≡ reindex (mono_of monos) f
+reindex-longer : (monos news : List Tree) (f : Comb ℕ) → Each (λ t. t.1 < length monos) f → reindex (basis_mono (monos ++ news)) f ≡ reindex (basis_mono monos) f
 reindex-longer monos news [] a = refl
 reindex-longer monos news (t ∷ f) a = rw (get_or_append_left monos news (leaf 0) t.1 a.0, reindex-longer monos news f a.1)
 

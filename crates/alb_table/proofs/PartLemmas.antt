@@ -1,7 +1,7 @@
 -- Parts, types and numbers.
 use Rattle.std.proofs.Common.{◌≡◌, ℕ, zero, suc, ◌+◌, ◌-◌, ◌*◌, ◌<◌, ◌≤◌, true, false, List, [], ◌∷◌, ◌++◌, map, length, get_or, replicate, reverse, sym, refl, ap, ◌∙◌, arith, inl, inr, ◌⊎◌, subst, length-append, append_assoc, sum}
 use Rattle.alb_table.proofs.GridLemmas.{length-rectangle}
-use Rattle.std.specs.Prelude.{Some, None, slice_index_or}
+use Rattle.std.specs.Prelude.{Some, None, slice_index_or, All}
 use Rattle.std.specs.List.{flat_map}
 use Rattle.std.proofs.lemmas.List.Concat.{flat_map-append}
 use Rattle.std.proofs.Math.ListN.{length-replicate}
@@ -9,21 +9,18 @@ use Rattle.std.proofs.lemmas.List.Sums.{sum_by-cons}
 use Rattle.std.proofs.lemmas.Bool.{cases_Bool, cases_lt}
 use Rattle.std.proofs.lemmas.List.{get_or-replicate, get_or_append_left, get_or-append_right, map-append, append-nil, reverse-append, reverse-reverse}
 use Rattle.alb_table.specs.declared.grid.Grid.{Grid}
-use Rattle.alb_table.specs.Grid.{cells_of, OffsetsFrom, Rises, rectangle, find_entry}
+use Rattle.alb_table.specs.Grid.{cells_of, OffsetsFrom, Rises}
+use Rattle.alb_table.specs.Table.{rectangle, find_entry, PartView, part_view, first_of, dim_of, elems, types, type_at, entries_at, origins_at, part_at, products_of, products, entry_of}
 use Rattle.alb_poly.specs.Poly.{list_eq}
 use Rattle.alb_linear.proofs.IdentityLemmas.{list_eq-sound, list_eq-itself}
-use Rattle.alb_table.specs.PartView.{PartView, part_view, first_of, dim_of, elems, types, type_at, entries_at, origins_at, part_at}
-use Rattle.alb_table.specs.Entry.{products_of, products, entry_of}
 use Rattle.alb_table.specs.Stored.{grids_from}
-use Rattle.alb_table.specs.Views.{numbers_from, part_number, view_of, views, IsStored, AreStored, IsStore, IsFull, Pushes, Grows}
+use Rattle.alb_table.specs.Views.{numbers_from, part_number, view_of, views, IsStored, AreStored, IsStore, IsFull, PushesPart, GrowsStore}
 use Rattle.alb_table.specs.declared.store.Store.{Store}
 use Rattle.std.specs.Arc.{arc_value}
 use Rattle.std.specs.declared.sync.Arc.{Arc}
 use Rattle.std.specs.declared.alloc.Global.{Global}
-use Rattle.std.specs.Prelude.{All}
-use Rattle.alb_mono.specs.Types.{splits, IsSplit}
+use Rattle.alb_mono.specs.Tree.{splits, IsSplit, type_plus}
 use Rattle.alb_mono.proofs.TypesListing.{splits-listing}
-use Rattle.alb_mono.specs.Tree.{type_plus}
 use Rattle.alb_mono.specs.Listing.{Each}
 use Rattle.alb_mono.proofs.ListingLemmas.{each-at, each-weaker}
 use Rattle.alb_mono.proofs.TypeLemmas.{plus_at, length-type_plus}
@@ -293,7 +290,7 @@ stored-append parts (x ∷ xs) a h k = (h.0, stored-append parts xs a h.1 k)
 
 pub pushes : (parts : List PartView) (old new : Store) (a : Arc Stored Global) (q : PartView) →
     new.parts.items ≡ old.parts.items ++ a ∷ [] → view_of a ≡ q → new.part_of.items ≡ old.part_of.items ++ replicate (length q.basis) (length old.parts.items) →
-    new.elems.items ≡ old.elems.items ++ q.basis → IsStored parts (arc_value a) → Pushes parts old new q
+    new.elems.items ≡ old.elems.items ++ q.basis → IsStored parts (arc_value a) → PushesPart parts old new q
 pushes parts old new a q e f h l s = record {
   parts_are = ap (map view_of) e ∙ map-append view_of old.parts.items (a ∷ []) ∙ ap (λ w. map view_of old.parts.items ++ w ∷ []) f;
   numbers = h;
@@ -312,7 +309,7 @@ elems-append ps q = flat_map-append (λ (v : PartView). v.basis) ps (q ∷ []) �
 
 -- one more part was taken and stored
 pub extends_more : (parts total : List PartView) (store new : Store) (left rest : List Part) (q : Part) →
-    Extends parts total store left → left ≡ rest ++ q ∷ [] → Pushes parts store new (part_view q) → Extends parts total new rest
+    Extends parts total store left → left ≡ rest ++ q ∷ [] → PushesPart parts store new (part_view q) → Extends parts total new rest
 extends_more parts total store new left rest q h e p =
     let r : reverse left ≡ q ∷ reverse rest = ap reverse e ∙ reverse-append rest (q ∷ []) in
     let v = rw r at h.parts_are in
@@ -362,7 +359,7 @@ extends_start old store parts left kept a n m l e = record {
 }
 
 pub extends_end : (old store : Store) (parts left rest : List Part) → left ≡ reverse parts → rest ≡ [] →
-    Extends (views old) (views old ++ map part_view (reverse left)) store rest → Grows old (map part_view parts) store
+    Extends (views old) (views old ++ map part_view (reverse left)) store rest → GrowsStore old (map part_view parts) store
 extends_end old store parts left rest l r x = record {
   parts_are = sym (append-nil (views store)) ∙ (rw r at x.parts_are) ∙ ap (λ ps. views old ++ map part_view ps) (ap reverse l ∙ reverse-reverse parts);
   numbers = x.numbers;
@@ -379,7 +376,7 @@ stored-extend ps new (a ∷ arcs) d e l s =
     (record { cells = h.cells ∙ p; offsets = h.offsets; rises = h.rises; full = h.full ∙ ap length p }, stored-extend ps new arcs d e l.1 s.1)
 
 -- a store that grew by parts of one degree more is right
-pub grows_store : (old new : Store) (more : List PartView) (d : ℕ) → Grows old more new → Each (λ (q : PartView). sum q.at ≡ d) more →
+pub grows_store : (old new : Store) (more : List PartView) (d : ℕ) → GrowsStore old more new → Each (λ (q : PartView). sum q.at ≡ d) more →
     Each (λ (q : PartView). sum q.at ≤ d) (views new) → IsStore new
 grows_store old new more d g e l = record {
   numbers = g.numbers;

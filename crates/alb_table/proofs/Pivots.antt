@@ -9,7 +9,7 @@ use Rattle.alb_mono.specs.Tree.{Tree, leaf, node, type_of, cmp_trees, same_tree}
 use Rattle.alb_mono.proofs.Order.{cmp_types_total, cmp_trees_total, trees_equal}
 use Rattle.gf_sums.specs.Sums.{weigh, scale}
 use Rattle.gf_sums.proofs.Totals.{weigh-append, weigh-scale}
-use Rattle.alb_poly.specs.Algebra.{unit}
+use Rattle.alb_poly.specs.Textbook.{unit}
 use Rattle.gf_sums.proofs.Alike.{Alike, equal, itself, turned, joined, append-alike, scale-alike, multiply-alike}
 use Rattle.alb_poly.specs.Poly.{Poly}
 use Rattle.alb_poly.specs.Instance.{Form}
@@ -17,14 +17,13 @@ use Rattle.alb_poly.specs.Consequence.{IsConsequence, AreMultilinear}
 use Rattle.alb_mono.specs.Listing.{Each}
 use Rattle.alb_poly.proofs.Multilinear.{each-append, each-from, each-flat}
 use Rattle.alb_poly.proofs.Consequence.{poly_alike, tree_tells}
-use Rattle.alb_table.specs.Leading.{SameType, IsZeroAt, LeadsWith, IsLeading, IsNormal, outer}
+use Rattle.alb_table.specs.Right.{SameType, IsZeroAt, LeadsWith, IsLeading, IsNormal, outer, AreHigh, mono_value, IsBasis, IsPart, StandsFor}
 use Rattle.alb_table.proofs.Types.{type-itself, type-turned, type-joined, type-node, type-listed}
 use Rattle.alb_table.proofs.Coefficients.{each-coefficient}
 use Rattle.alb_table.proofs.Normal.{IsLower, by-leads, leading-led, normal-left, normal-right}
 use Rattle.alb_table.proofs.Congruent.{minus_twice, consequence-alike, congruent-alike, congruent-turned, congruent-consequence}
-use Rattle.alb_table.specs.Right.{AreHigh, mono_value, IsBasis, IsPart, StandsFor}
 use Rattle.alb_table.proofs.Bases.{IsTable, IsNext, IsBlock, IsTuple, IsColumn, IsReducedRow}
-use Rattle.alb_table.specs.Block.{image, block_image, InSpan, tuple_row, IsPivot}
+use Rattle.alb_table.specs.Block.{image, block_image, InNamedSpan, tuple_row, IsPivotMonomial}
 use Rattle.alb_table.proofs.Values.{each-scale, each-multiply, value-stands, value-normal, IsAtMost, value-at-most}
 use Rattle.alb_table.proofs.Image.{image-congruent, image-spans, span-image}
 
@@ -74,7 +73,7 @@ module _ (p : ℕ) (pos : 0 < p) (fs : List Form) (multi : AreMultilinear fs) (h
       each-scale (IsColumn Base z) t.0 _ (image-columns t.1 (block.next t.1 s) s)) a
 
   -- an element of the span is a consequence of the block, as a polynomial
-  pub span-consequence : (x : Poly) → InSpan p (IsTuple fs Base z) (tuple_row fs entry) x → IsConsequence p fs x
+  pub span-consequence : (x : Poly) → InNamedSpan p (IsTuple fs Base z) (tuple_row fs entry) x → IsConsequence p fs x
   span-consequence x s =
       let i = span-image p pos fs multi high Within entry table z block x s in
       consequence-alike p fs (turned i.alike)
@@ -82,7 +81,7 @@ module _ (p : ℕ) (pos : 0 < p) (fs : List Form) (multi : AreMultilinear fs) (h
       (each-from _ _ i.polynomial (λ t h. block.next t.1 h) i.types))) i.consequence)
 
   -- the monomials of an element of the span are columns
-  pub element-columns : (x : Poly) → InSpan p (IsTuple fs Base z) (tuple_row fs entry) x → (y : Tree) → (IsZeroAt p x y → ⊥) → IsColumn Base z y
+  pub element-columns : (x : Poly) → InNamedSpan p (IsTuple fs Base z) (tuple_row fs entry) x → (y : Tree) → (IsZeroAt p x y → ⊥) → IsColumn Base z y
   element-columns x s y n =
       let i = span-image p pos fs multi high Within entry table z block x s in
       elim (each-coefficient same_tree tree_tells (IsColumn Base z) (block_image entry i.polynomial) y (block-columns i.polynomial i.types)) [
@@ -90,11 +89,11 @@ module _ (p : ℕ) (pos : 0 < p) (fs : List Form) (multi : AreMultilinear fs) (h
         | inr e ↦ absurd (n (poly_alike i.alike y ⊙ same e))
       ]
 
-  span-types : (x : Poly) → InSpan p (IsTuple fs Base z) (tuple_row fs entry) x → (y : Tree) → (IsZeroAt p x y → ⊥) → SameType y z
+  span-types : (x : Poly) → InNamedSpan p (IsTuple fs Base z) (tuple_row fs entry) x → (y : Tree) → (IsZeroAt p x y → ⊥) → SameType y z
   span-types x s y n = column_type y (element-columns x s y n)
 
   -- a pivot leads a consequence
-  pub pivot-leading : (m : Tree) → IsPivot p (IsTuple fs Base z) (tuple_row fs entry) m → IsLeading p fs m
+  pub pivot-leading : (m : Tree) → IsPivotMonomial p (IsTuple fs Base z) (tuple_row fs entry) m → IsLeading p fs m
   pivot-leading m v = record {
     polynomial = v.element;
     consequence = span-consequence v.element v.in_span;
@@ -143,7 +142,7 @@ module _ (p : ℕ) (pos : 0 < p) (fs : List Form) (multi : AreMultilinear fs) (h
       (equal _ _ (λ w. omega arith))
 
   -- a column that leads a consequence is a pivot
-  pub leading-pivot : (m : Tree) → IsColumn Base z m → IsLeading p fs m → IsPivot p (IsTuple fs Base z) (tuple_row fs entry) m
+  pub leading-pivot : (m : Tree) → IsColumn Base z m → IsLeading p fs m → IsPivotMonomial p (IsTuple fs Base z) (tuple_row fs entry) m
   leading-pivot m c h =
       let b = leading-led p fs m h in
       let s : SameType m z = column_type m c in
@@ -172,10 +171,10 @@ module _ (p : ℕ) (pos : 0 < p) (fs : List Form) (multi : AreMultilinear fs) (h
       by_factors (node l r) n s h = (record { within = h.0; normal = normal-left p fs l r n }, record { within = h.1; normal = normal-right p fs l r n }, s)
 
   -- the normal monomials of the block are the columns that are no pivots
-  pub column-normal : (m : Tree) → IsColumn Base z m → (IsPivot p (IsTuple fs Base z) (tuple_row fs entry) m → ⊥) → IsNormal p fs m
+  pub column-normal : (m : Tree) → IsColumn Base z m → (IsPivotMonomial p (IsTuple fs Base z) (tuple_row fs entry) m → ⊥) → IsNormal p fs m
   column-normal m c n = record { none = λ h. n (leading-pivot m c h) }
 
-  pub normal-no_pivot : (m : Tree) → IsNormal p fs m → IsPivot p (IsTuple fs Base z) (tuple_row fs entry) m → ⊥
+  pub normal-no_pivot : (m : Tree) → IsNormal p fs m → IsPivotMonomial p (IsTuple fs Base z) (tuple_row fs entry) m → ⊥
   normal-no_pivot m n v = n.none (pivot-leading m v)
 
   -- the entry of a pivot: minus the rest of its row
@@ -194,13 +193,13 @@ module _ (p : ℕ) (pos : 0 < p) (fs : List Form) (multi : AreMultilinear fs) (h
     };
   }
     where
-      each-columns : (f : Poly) → Each (λ t. IsColumn Base z t.1) f → Each (λ t. IsPivot p (IsTuple fs Base z) (tuple_row fs entry) t.1 → ⊥) f →
+      each-columns : (f : Poly) → Each (λ t. IsColumn Base z t.1) f → Each (λ t. IsPivotMonomial p (IsTuple fs Base z) (tuple_row fs entry) t.1 → ⊥) f →
           Each (λ t. IsPart (λ x. IsNormal p fs x) m t.1) f
       each-columns [] a b = tt
       each-columns (t ∷ f) a b = (record { basis = column-normal t.1 a.0 b.0; type = type-joined (column_type t.1 a.0) (type-turned s) }, each-columns f a.1 b.1)
 
   -- the entry of another column: itself
-  pub column-stands : (m : Tree) → IsColumn Base z m → (IsPivot p (IsTuple fs Base z) (tuple_row fs entry) m → ⊥) → StandsFor p fs (λ x. IsNormal p fs x) m (unit m)
+  pub column-stands : (m : Tree) → IsColumn Base z m → (IsPivotMonomial p (IsTuple fs Base z) (tuple_row fs entry) m → ⊥) → StandsFor p fs (λ x. IsNormal p fs x) m (unit m)
   column-stands m c n = record {
     parts = (record { basis = column-normal m c n; type = type-itself m }, tt);
     congruent = congruent-alike p fs pos (itself (unit m));

@@ -8,15 +8,12 @@ use Rattle.std.proofs.lemmas.Bool.{cases_Bool, cases_lt}
 use Rattle.std.proofs.lemmas.Bool.Decides.{nat_tests}
 use Rattle.std.proofs.lemmas.List.{get_or-replicate, get_or_append_left, get_or-append_right}
 use Rattle.alb_mono.specs.Listing.{Each, IsIn, Ascends}
-use Rattle.alb_mono.specs.Tree.{cmp_types}
-use Rattle.alb_mono.specs.Types.{rising, splits, IsSplit}
+use Rattle.alb_mono.specs.Tree.{cmp_types, rising, splits, IsSplit}
 use Rattle.alb_mono.proofs.ListingLemmas.{each-member, in-map, in-flat}
 use Rattle.alb_mono.proofs.TypesListing.{splits-listing}
 use Rattle.alb_poly.specs.Poly.{list_eq}
 use Rattle.alb_linear.proofs.IdentityLemmas.{list_eq-sound, list_eq-itself}
-use Rattle.alb_table.specs.PartView.{PartView, first_of, dim_of, elems, types, type_at, entries_at}
-use Rattle.alb_table.specs.Grid.{rectangle, same_pair, find_entry}
-use Rattle.alb_table.specs.Entry.{products}
+use Rattle.alb_table.specs.Table.{PartView, first_of, dim_of, elems, types, type_at, entries_at, same_pair, rectangle, find_entry, products}
 use Rattle.alb_table.proofs.PartLemmas.{elems_step, first_here, first_step, no_part, number_at}
 use Rattle.alb_table.proofs.TypesTo.{in-rising, apart, degrees_rise}
 

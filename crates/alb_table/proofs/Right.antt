@@ -13,26 +13,24 @@ use Rattle.gf_field.proofs.Mod.{same, ◌⊙◌, plus, times}
 use Rattle.alb_mono.specs.Tree.{Tree, leaf, node, degree, count, listed, type_of, type_le, AreBelow, are_below, cmp_trees, same_tree}
 use Rattle.alb_mono.proofs.Order.{cmp_trees_total}
 use Rattle.gf_sums.specs.Sums.{Comb, coefficient, reindex, scale, total}
-use Rattle.alb_poly.specs.Algebra.{unit}
+use Rattle.alb_poly.specs.Textbook.{unit}
 use Rattle.gf_sums.proofs.Alike.{Alike, itself, turned, joined}
 use Rattle.alb_poly.specs.Poly.{Poly}
 use Rattle.alb_mono.specs.declared.side.Side.{Side}
 use Rattle.alb_mono.specs.declared.side.Side.TheVariants.{Left, Right}
-use Rattle.alb_poly.specs.Context.{within}
-use Rattle.alb_poly.specs.Instance.{fill, Form, instance, IsMultilinear, run}
-use Rattle.alb_poly.specs.Consequence.{form_at, Item, IsItem, AreItems, item_value, IsConsequence, AreMultilinear}
+use Rattle.alb_poly.specs.Consequence.{within, form_at, Item, IsItem, AreItems, item_value, IsConsequence, AreMultilinear}
+use Rattle.alb_poly.specs.Instance.{fill, Form, instance, IsMultilinear, total_from}
 use Rattle.alb_mono.specs.Listing.{Each}
 use Rattle.alb_poly.proofs.Multilinear.{each-append, each-from, each-map, each-flat, multilinear-below}
 use Rattle.alb_poly.proofs.Parts.{multilinear_at, listed-equal}
 use Rattle.alb_mono.proofs.Leaves.{below_from_test, length-type_of}
 use Rattle.alb_poly.proofs.Consequence.{tree_tells, value, consequence-zero, consequence-append, consequence-scale, alike_poly, consequence-instance}
-use Rattle.alb_table.specs.Leading.{SameType, IsZeroAt, IsNormal, IsCongruent, difference}
+use Rattle.alb_table.specs.Right.{SameType, IsZeroAt, IsNormal, IsCongruent, difference, AreHigh, poly_value, StandsFor, IsOfType, IsWithinDegree, IsBasisTo, IsBasisOf, IsTypeTo, IsRight}
 use Rattle.alb_table.proofs.Types.{type-itself, type-turned}
 use Rattle.alb_table.proofs.Coefficients.{zero_or, coefficient-append, coefficient-scale, each-coefficient}
 use Rattle.alb_table.proofs.Congruent.{congruent-joined, congruent-turned}
-use Rattle.alb_table.specs.Right.{AreHigh, poly_value, StandsFor, IsOfType, IsWithin, IsBasisTo, IsBasisOf, IsTypeTo, IsRight}
 use Rattle.alb_table.proofs.Bases.{IsTable, IsBlock, IsTuple, IsColumn}
-use Rattle.alb_table.specs.Block.{InSpan, tuple_row, spread, block_image, IsPivot, IsTupleAt, IsColumnAt, IsFreeAt, IsEntryAt, AreFreeAt, Grows}
+use Rattle.alb_table.specs.Block.{InNamedSpan, tuple_row, spread, block_image, IsPivotMonomial, IsTupleAt, IsColumnAt, IsFreeAt, IsEntryAt, AreFreeAt, Grows}
 use Rattle.alb_table.proofs.Values.{each-both, each-scale, normal-unique, poly-value-congruent, poly-value-basis, consequence-value, value-consequence}
 use Rattle.alb_table.proofs.Image.{high-at, high_node, count-fill, image-spans, tuple-image, spread-spread}
 use Rattle.alb_table.proofs.Spans.{span-zero, span-one, spread-each}
@@ -77,10 +75,10 @@ module _ (fs : List Form) (multi : AreMultilinear fs) (high : AreHigh fs) where
 
 -- ---- a block by its type, and by one of its monomials
 
-span-named : {N : Type 0} {p : ℕ} (P Q : N → Type 0) (row : N → Poly) {x : Poly} → ((n : N) → P n → Q n) → InSpan p P row x → InSpan p Q row x
+span-named : {N : Type 0} {p : ℕ} (P Q : N → Type 0) (row : N → Poly) {x : Poly} → ((n : N) → P n → Q n) → InNamedSpan p P row x → InNamedSpan p Q row x
 span-named P Q row h s = record { items = s.items; named = each-from (λ t. P t.1) (λ t. Q t.1) s.items (λ t a. h t.1 a) s.named; gives = s.gives }
 
-pivot-named : {N : Type 0} {p : ℕ} (P Q : N → Type 0) (row : N → Poly) {m : Tree} → ((n : N) → P n → Q n) → IsPivot p P row m → IsPivot p Q row m
+pivot-named : {N : Type 0} {p : ℕ} (P Q : N → Type 0) (row : N → Poly) {m : Tree} → ((n : N) → P n → Q n) → IsPivotMonomial p P row m → IsPivotMonomial p Q row m
 pivot-named P Q row h v = record { element = v.element; in_span = span-named P Q row h v.in_span; nonzero = v.nonzero; greatest = v.greatest }
 
 total-absent : (n g : ℕ) (ms : List Tree) → Each (AreBelow n) ms → n ≤ g → total (count g) ms ≡ 0
@@ -113,7 +111,7 @@ module _ (p : ℕ) (fs : List Form) (target : List ℕ) (d : ℕ) (t : List ℕ)
     types = listed-equal _ _ 0 (length t) h.types ∙ type.counts;
   }
 
-sum-listed : (f : ℕ → ℕ) (k n : ℕ) → sum (listed f k n) ≡ run f k n
+sum-listed : (f : ℕ → ℕ) (k n : ℕ) → sum (listed f k n) ≡ total_from f k n
 sum-listed f k zero = refl
 sum-listed f k (suc n) = sum_by-cons (λ x. x) (f k) (listed f (suc k) n) ∙ ap (λ x. f k + x) (sum-listed f (suc k) n)
 
@@ -123,7 +121,7 @@ unfolding type_of
 degree-type n m h = sym (sum-listed (λ g. count g m) 0 n ∙ degree-counts n m h)
 
 -- what a monomial of a type within is
-pub of_type-within : (target : List ℕ) (d : ℕ) (t : List ℕ) (m : Tree) → IsTypeTo target d t → IsOfType t m → IsWithin target d m
+pub of_type-within : (target : List ℕ) (d : ℕ) (t : List ℕ) (m : Tree) → IsTypeTo target d t → IsOfType t m → IsWithinDegree target d m
 of_type-within target d t m ty h =
     let e : type_of (length target) m ≡ t = subst (λ n. type_of n m ≡ t) ty.counts h.counts in
     let b : IsTrue (are_below (length target) m) = subst (λ n. IsTrue (are_below n m)) ty.counts h.below in
@@ -137,14 +135,14 @@ pub of_type-degree : (t : List ℕ) (m : Tree) → IsOfType t m → degree m ≡
 of_type-degree t m h = degree-type (length t) m (below_from_test (length t) m h.below) ∙ ap sum h.counts
 
 -- the type of a monomial within
-pub within-type : (target : List ℕ) (d : ℕ) (m : Tree) → IsWithin target d m → IsTypeTo target d (type_of (length target) m)
+pub within-type : (target : List ℕ) (d : ℕ) (m : Tree) → IsWithinDegree target d m → IsTypeTo target d (type_of (length target) m)
 within-type target d m h = record {
   counts = length-type_of (length target) m;
   le = h.type;
   degree = subst (λ n. n ≤ d) (degree-type (length target) m (below_from_test (length target) m h.below)) h.degree;
 }
 
-pub within-of_type : (target : List ℕ) (d : ℕ) (m : Tree) → IsWithin target d m → IsOfType (type_of (length target) m) m
+pub within-of_type : (target : List ℕ) (d : ℕ) (m : Tree) → IsWithinDegree target d m → IsOfType (type_of (length target) m) m
 within-of_type target d m h =
     let e : length (type_of (length target) m) ≡ length target = length-type_of (length target) m in
     record { below = subst (λ n. IsTrue (are_below n m)) (sym e) h.below; counts = ap (λ n. type_of n m) e }
@@ -152,16 +150,16 @@ within-of_type target d m h =
 module _ (p : ℕ) (pos : 0 < p) (fs : List Form) (multi : AreMultilinear fs) (high : AreHigh fs) (target : List ℕ) where
   -- a right table is a table
   pub right-table : (d : ℕ) (basis : List ℕ → List Tree) (entry : Tree → Tree → Poly) → IsRight p fs target d basis entry →
-      IsTable p fs (IsWithin target d) (IsBasisTo p fs target d) entry
+      IsTable p fs (IsWithinDegree target d) (IsBasisTo p fs target d) entry
   right-table d basis entry r = record {
     closed = within-closed target d;
     generators = λ k w. record { within = w; normal = generator-normal fs multi high p k };
     entries = r.entries;
   }
 
-  module _ (d : ℕ) (big : 1 ≤ d) (entry : Tree → Tree → Poly) (table : IsTable p fs (IsWithin target d) (IsBasisTo p fs target d) entry)
+  module _ (d : ℕ) (big : 1 ≤ d) (entry : Tree → Tree → Poly) (table : IsTable p fs (IsWithinDegree target d) (IsBasisTo p fs target d) entry)
       (t : List ℕ) (ty : IsTypeTo target (d + 1) t) (next : sum t ≡ d + 1) where
-    block_of : (m : Tree) → IsOfType t m → IsBlock (IsWithin target d) m
+    block_of : (m : Tree) → IsOfType t m → IsBlock (IsWithinDegree target d) m
     block_of m h = within-block target d m big (of_type-within target (d + 1) t m ty h) (of_type-degree t m h ∙ next)
 
     -- a column by its type, and by one of its monomials
@@ -184,7 +182,7 @@ module _ (p : ℕ) (pos : 0 < p) (fs : List Form) (multi : AreMultilinear fs) (h
     pub free-normal : (m : Tree) → IsFreeAt p fs target d entry t m → IsNormal p fs m × IsOfType t m
     free-normal m h =
         let o : IsOfType t m = h.column.type in (
-          column-normal p pos fs multi high (IsWithin target d) entry table m (block_of m o) m (column-by-one m m o h.column)
+          column-normal p pos fs multi high (IsWithinDegree target d) entry table m (block_of m o) m (column-by-one m m o h.column)
               (λ v. h.no_pivot (pivot-named (IsTuple fs (IsBasisTo p fs target d) m) (IsTupleAt p fs target d t) (tuple_row fs entry) (tuple-by-type p fs target d t ty.counts m o) v)),
           o,
         )
@@ -192,30 +190,30 @@ module _ (p : ℕ) (pos : 0 < p) (fs : List Form) (multi : AreMultilinear fs) (h
     -- and the converse
     pub normal-free : (m : Tree) → IsOfType t m → IsNormal p fs m → IsFreeAt p fs target d entry t m
     normal-free m o n = record {
-      column = column-by-type m m o (normal-column p pos fs multi high (IsWithin target d) entry table m (block_of m o) m n (type-itself m));
-      no_pivot = λ v. n.none (pivot-leading p pos fs multi high (IsWithin target d) entry table m (block_of m o) m
+      column = column-by-type m m o (normal-column p pos fs multi high (IsWithinDegree target d) entry table m (block_of m o) m n (type-itself m));
+      no_pivot = λ v. n.none (pivot-leading p pos fs multi high (IsWithinDegree target d) entry table m (block_of m o) m
           (pivot-named (IsTupleAt p fs target d t) (IsTuple fs (IsBasisTo p fs target d) m) (tuple_row fs entry) (tuple-by-one p fs target d t ty.counts m o) v));
     }
 
     -- the monomials of an element of the span are columns
-    pub span-columns : (z : Tree) → IsOfType t z → (x : Poly) → InSpan p (IsTupleAt p fs target d t) (tuple_row fs entry) x →
+    pub span-columns : (z : Tree) → IsOfType t z → (x : Poly) → InNamedSpan p (IsTupleAt p fs target d t) (tuple_row fs entry) x →
         (m : Tree) → (IsZeroAt p x m → ⊥) → IsColumnAt p fs target d t m
-    span-columns z o x s m n = column-by-type z m o (element-columns p pos fs multi high (IsWithin target d) entry table z (block_of z o) x
+    span-columns z o x s m n = column-by-type z m o (element-columns p pos fs multi high (IsWithinDegree target d) entry table z (block_of z o) x
         (span-named (IsTupleAt p fs target d t) (IsTuple fs (IsBasisTo p fs target d) z) (tuple_row fs entry) (tuple-by-one p fs target d t ty.counts z o) s) m n)
 
     -- an element of the span is a consequence
-    pub span-known : (m : Tree) → IsOfType t m → (x : Poly) → InSpan p (IsTupleAt p fs target d t) (tuple_row fs entry) x → IsConsequence p fs x
-    span-known m o x s = span-consequence p pos fs multi high (IsWithin target d) entry table m (block_of m o) x
+    pub span-known : (m : Tree) → IsOfType t m → (x : Poly) → InNamedSpan p (IsTupleAt p fs target d t) (tuple_row fs entry) x → IsConsequence p fs x
+    span-known m o x s = span-consequence p pos fs multi high (IsWithinDegree target d) entry table m (block_of m o) x
         (span-named (IsTupleAt p fs target d t) (IsTuple fs (IsBasisTo p fs target d) m) (tuple_row fs entry) (tuple-by-one p fs target d t ty.counts m o) s)
 
     -- ---- the rows of type `t` span the images of the consequences of type `t`
 
     -- the image of a consequence of type `t` is a combination of rows of type `t`
-    pub image-spans_at : (g : Poly) → IsConsequence p fs g → Each (λ s. IsOfType t s.1) g → InSpan p (IsTupleAt p fs target d t) (tuple_row fs entry) (block_image entry g)
+    pub image-spans_at : (g : Poly) → IsConsequence p fs g → Each (λ s. IsOfType t s.1) g → InNamedSpan p (IsTupleAt p fs target d t) (tuple_row fs entry) (block_image entry g)
     image-spans_at [] c a = span-zero p (IsTupleAt p fs target d t) (tuple_row fs entry)
     image-spans_at (s ∷ g) c a =
         span-named (IsTuple fs (IsBasisTo p fs target d) s.1) (IsTupleAt p fs target d t) (tuple_row fs entry) (tuple-by-type p fs target d t ty.counts s.1 a.0)
-        (image-spans p pos fs multi high (IsWithin target d) entry table s.1 (block_of s.1 a.0) (s ∷ g) c
+        (image-spans p pos fs multi high (IsWithinDegree target d) entry table s.1 (block_of s.1 a.0) (s ∷ g) c
         (each-from (λ u. IsOfType t u.1) (λ u. SameType u.1 s.1) (s ∷ g) (λ u o. of_type-same t u.1 s.1 o a.0) a))
 
     unfoldable pub tuple_instance : ℕ × List Tree → Poly
@@ -251,7 +249,7 @@ module _ (p : ℕ) (pos : 0 < p) (fs : List Form) (multi : AreMultilinear fs) (h
         by_terms [] e a = rw e (itself [])
         by_terms (s ∷ ts) e a =
             let o : IsOfType t (fill name.1 s.1) = (subst (λ f. Each (λ u. IsOfType t u.1) (reindex (fill name.1) f)) e a).0 in
-            tuple-image p pos fs multi high (IsWithin target d) entry table (fill name.1 s.1) (block_of (fill name.1 s.1) o) name
+            tuple-image p pos fs multi high (IsWithinDegree target d) entry table (fill name.1 s.1) (block_of (fill name.1 s.1) o) name
             (tuple-by-one p fs target d t ty.counts (fill name.1 s.1) o name h)
 
     -- the monomials of a row are columns
@@ -266,7 +264,7 @@ module _ (p : ℕ) (pos : 0 < p) (fs : List Form) (multi : AreMultilinear fs) (h
             span-columns (fill name.1 s.1) o (tuple_row fs entry name) (span-one p (IsTupleAt p fs target d t) (tuple_row fs entry) name h) m n
 
     -- the monomials of an element of the span are columns
-    pub element-columns_at : (x : Poly) → InSpan p (IsTupleAt p fs target d t) (tuple_row fs entry) x → (m : Tree) → (IsZeroAt p x m → ⊥) → IsColumnAt p fs target d t m
+    pub element-columns_at : (x : Poly) → InNamedSpan p (IsTupleAt p fs target d t) (tuple_row fs entry) x → (m : Tree) → (IsZeroAt p x m → ⊥) → IsColumnAt p fs target d t m
     element-columns_at x s m n = sum_columns s.items s.named (λ z. n (s.gives m ⊙ z))
       where
         sum_columns : (items : Comb (ℕ × List Tree)) → Each (λ u. IsTupleAt p fs target d t u.1) items → (IsZeroAt p (spread (tuple_row fs entry) items) m → ⊥) → IsColumnAt p fs target d t m
@@ -291,7 +289,7 @@ module _ (p : ℕ) (pos : 0 < p) (fs : List Form) (multi : AreMultilinear fs) (h
     instances-consequence (s ∷ items) a =
         consequence-append p fs (consequence-scale p fs s.0 (consequence-instance p fs s.1.0 s.1.1 a.0.form a.0.full)) (instances-consequence items a.1)
 
-    pub span-image_at : (x : Poly) → InSpan p (IsTupleAt p fs target d t) (tuple_row fs entry) x → IsImageAt x
+    pub span-image_at : (x : Poly) → InNamedSpan p (IsTupleAt p fs target d t) (tuple_row fs entry) x → IsImageAt x
     span-image_at x s = record {
       polynomial = spread tuple_instance s.items;
       consequence = instances-consequence s.items s.named;
@@ -362,14 +360,14 @@ module _ (p : ℕ) (pos : 0 < p) (fs : List Form) (multi : AreMultilinear fs) (h
     ];
   }
     where
-      table : IsTable p fs (IsWithin target d) (IsBasisTo p fs target d) entry
+      table : IsTable p fs (IsWithinDegree target d) (IsBasisTo p fs target d) entry
       table = right-table d basis entry r
 
   -- ---- uniqueness
 
   -- two right tables have the same entries
   pub entry-unique : (d : ℕ) (basis basis' : List ℕ → List Tree) (entry entry' : Tree → Tree → Poly) →
-      IsRight p fs target d basis entry → IsRight p fs target d basis' entry' → (b c : Tree) → IsBasisTo p fs target d b → IsBasisTo p fs target d c → IsWithin target d (node b c) →
+      IsRight p fs target d basis entry → IsRight p fs target d basis' entry' → (b c : Tree) → IsBasisTo p fs target d b → IsBasisTo p fs target d c → IsWithinDegree target d (node b c) →
       Alike p (entry b c) (entry' b c)
   entry-unique d basis basis' entry entry' r s b c hb hc w =
       let x = r.entries b c hb hc w in
@@ -390,22 +388,22 @@ module _ (p : ℕ) (pos : 0 < p) (fs : List Form) (multi : AreMultilinear fs) (h
     right-contains x h = (right.bases (type_of (length target) x) (within-type target d x h.within)).whole x (within-of_type target d x h.within) h.normal
 
     -- a polynomial within the table less its value is a consequence
-    pub right-congruent : (g : Poly) → Each (λ t. IsWithin target d t.1) g → IsCongruent p fs g (poly_value entry g)
-    right-congruent g a = poly-value-congruent p pos fs (IsWithin target d) (IsBasisTo p fs target d) entry (right-table d basis entry right) g a
+    pub right-congruent : (g : Poly) → Each (λ t. IsWithinDegree target d t.1) g → IsCongruent p fs g (poly_value entry g)
+    right-congruent g a = poly-value-congruent p pos fs (IsWithinDegree target d) (IsBasisTo p fs target d) entry (right-table d basis entry right) g a
 
-    pub right-normal : (g : Poly) → Each (λ t. IsWithin target d t.1) g → Each (λ t. IsNormal p fs t.1) (poly_value entry g)
+    pub right-normal : (g : Poly) → Each (λ t. IsWithinDegree target d t.1) g → Each (λ t. IsNormal p fs t.1) (poly_value entry g)
     right-normal g a = each-from _ _ (poly_value entry g) (λ t k. k.normal)
-        (poly-value-basis p pos fs (IsWithin target d) (IsBasisTo p fs target d) entry (right-table d basis entry right) g a)
+        (poly-value-basis p pos fs (IsWithinDegree target d) (IsBasisTo p fs target d) entry (right-table d basis entry right) g a)
 
     -- the value is zero exactly where the polynomial is a consequence
-    pub consequence-zero_value : (g : Poly) → Each (λ t. IsWithin target d t.1) g → IsConsequence p fs g → Alike p (poly_value entry g) []
-    consequence-zero_value g a c = consequence-value p pos fs multi (IsWithin target d) entry (right-table d basis entry right) g a c
+    pub consequence-zero_value : (g : Poly) → Each (λ t. IsWithinDegree target d t.1) g → IsConsequence p fs g → Alike p (poly_value entry g) []
+    consequence-zero_value g a c = consequence-value p pos fs multi (IsWithinDegree target d) entry (right-table d basis entry right) g a c
 
-    pub zero_value-consequence : (g : Poly) → Each (λ t. IsWithin target d t.1) g → Alike p (poly_value entry g) [] → IsConsequence p fs g
-    zero_value-consequence g a z = value-consequence p pos fs multi (IsWithin target d) entry (right-table d basis entry right) g a z
+    pub zero_value-consequence : (g : Poly) → Each (λ t. IsWithinDegree target d t.1) g → Alike p (poly_value entry g) [] → IsConsequence p fs g
+    zero_value-consequence g a z = value-consequence p pos fs multi (IsWithinDegree target d) entry (right-table d basis entry right) g a z
 
     -- the value is the one combination of normal monomials that differs from the polynomial by a consequence
-    pub normal_form-unique : (g h : Poly) → Each (λ t. IsWithin target d t.1) g → Each (λ t. IsNormal p fs t.1) h → IsCongruent p fs g h → Alike p h (poly_value entry g)
+    pub normal_form-unique : (g h : Poly) → Each (λ t. IsWithinDegree target d t.1) g → Each (λ t. IsNormal p fs t.1) h → IsCongruent p fs g h → Alike p h (poly_value entry g)
     normal_form-unique g h a n c = normal-unique p pos fs multi h (poly_value entry g) n (right-normal g a)
         (congruent-joined p fs pos (congruent-turned p fs pos c) (right-congruent g a))
 
@@ -472,7 +470,7 @@ basis-unique p fs t ms ns h k = sorted-members ms ns h.ascends k.ascends
 -- ---- the first table
 
 -- no product has degree 1
-pub first-entries : (p : ℕ) (fs : List Form) (target : List ℕ) (entry : Tree → Tree → Poly) (b c : Tree) → IsWithin target 1 (node b c) →
+pub first-entries : (p : ℕ) (fs : List Form) (target : List ℕ) (entry : Tree → Tree → Poly) (b c : Tree) → IsWithinDegree target 1 (node b c) →
     StandsFor p fs (IsBasisTo p fs target 1) (node b c) (entry b c)
 first-entries p fs target entry b c w = absurd (omega (arith, w.degree, degree-positive b, degree-positive c))
 

@@ -1,20 +1,17 @@
 -- What rules, and tables that are right for them, say.
 use Rattle.std.proofs.Common.{◌≡◌, ℕ, ◌<◌, ◌≤◌, ◌^◌, List, length, refl, sym, subst, arith}
 use Rattle.std.proofs.lemmas.List.{length-map}
-use Rattle.gf_field.specs.Primes.{IsInTable}
+use Rattle.gf_field.specs.Modular.{IsInTable}
 use Rattle.gf_field.proofs.Table.{IsPrime-from_table}
 use Rattle.alb_mono.specs.Listing.{Each}
 use Rattle.alb_mono.proofs.ListingLemmas.{each-weaker}
-use Rattle.alb_poly.specs.Consequence.{AreMultilinear}
+use Rattle.alb_poly.specs.Consequence.{AreMultilinear, form}
 use Rattle.alb_poly.specs.Instance.{Form, IsMultilinearForm}
-use Rattle.alb_poly.specs.Rules.{form}
 use Rattle.alb_poly.specs.declared.rules.Rules.{Rules}
 use Rattle.alb_linear.specs.Identity.{IsLinearized}
-use Rattle.alb_table.specs.RightFor.{RulesView, rules_view, AreRules, IsRightFor}
-use Rattle.alb_table.specs.RightTable.{IsRightTable}
-use Rattle.alb_table.specs.PartView.{PartView}
+use Rattle.alb_table.specs.RightTable.{RulesView, rules_view, AreRules, IsRightFor, IsRightTable}
+use Rattle.alb_table.specs.Table.{PartView, Table, IsTable, IsTarget, first_table, extended}
 use Rattle.alb_table.specs.Right.{AreHigh}
-use Rattle.alb_table.specs.Table.{Table, IsTable, IsTarget, first_table, extended}
 use Rattle.alb_table.proofs.FirstLemmas.{few_generators, first_is_table}
 use Rattle.alb_table.proofs.FirstRight.{first-right-table}
 

@@ -8,22 +8,18 @@ use Rattle.std.proofs.lemmas.Cmp.{tied_itself}
 use Rattle.std.proofs.lemmas.Bool.{cases_Bool}
 use Rattle.std.proofs.lemmas.List.{get_or-take}
 use Rattle.alb_mono.specs.Listing.{Each}
-use Rattle.alb_mono.specs.Tree.{Tree, leaf, type_of, cmp_trees, same_tree}
-use Rattle.alb_mono.specs.Types.{rising}
+use Rattle.alb_mono.specs.Tree.{Tree, leaf, type_of, cmp_trees, same_tree, rising}
 use Rattle.alb_mono.proofs.Order.{cmp_trees_total}
 use Rattle.alb_poly.specs.Instance.{Form}
 use Rattle.alb_poly.proofs.Consequence.{tree_tells}
 use Rattle.alb_rows.specs.Row.{Cells, comb, ColumnsBelow}
-use Rattle.alb_table.specs.PartView as View
-use Rattle.alb_table.specs.PartView.{PartView, first_of, dim_of, elems, type_at, entries_at, monos, monos_after, mono_at}
+use Rattle.alb_table.specs.Table as View
+use Rattle.alb_table.specs.Table.{PartView, first_of, dim_of, elems, type_at, entries_at, monos, monos_after, mono_at, entry_of, table_product, Table, IsTable}
 use Rattle.alb_table.specs.declared.part.Elem.{Elem}
 use Rattle.alb_table.specs.declared.part.Elem.TheVariants.{Gen}
-use Rattle.alb_table.specs.Entry.{entry_of, table_product}
-use Rattle.alb_table.specs.Table.{Table, IsTable}
-use Rattle.alb_table.specs.Right.{IsOfType, IsBasisTo, IsTypeTo, IsRight, mono_of}
+use Rattle.alb_table.specs.Right.{IsOfType, IsBasisTo, IsTypeTo, IsRight, basis_mono, IsNormal}
 use Rattle.alb_table.proofs.Numbers.{IsNumbered}
 use Rattle.alb_table.specs.RightTable.{basis_monos, mono_entry}
-use Rattle.alb_table.specs.Leading.{IsNormal}
 use Rattle.alb_table.proofs.Right.{of_type-within, within-type, within-of_type}
 use Rattle.alb_table.proofs.RangeLemmas.{InRange, number_in_range, type_of_range}
 use Rattle.alb_table.proofs.TableLemmas.{types_ascend, type_shape, entry_vector, long_enough}
@@ -177,7 +173,7 @@ module _ (fs : List Form) (t : Table) (tab : IsTable t) (right : IsRight t.p fs 
   product-below b c None h = tt
   product-below b c (Some e) h = entry-below b c e h
 
-  generator-at : (k : ℕ) → k < length t.target → mono_of (monos t.parts) k ≡ leaf k
+  generator-at : (k : ℕ) → k < length t.target → basis_mono (monos t.parts) k ≡ leaf k
   generator-at k l =
       let many : length t.target ≤ length (elems t.parts) = long_enough (length t.target) (elems t.parts) tab.generators in
       let e : get_or (elems t.parts) k (Gen k) ≡ Gen k =

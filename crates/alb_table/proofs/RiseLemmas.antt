@@ -5,8 +5,7 @@ use Rattle.std.specs.declared.cmp.Ordering.TheVariants.{Less}
 use Rattle.std.proofs.lemmas.Bool.{cases_Bool, cases_lt}
 use Rattle.std.proofs.lemmas.Bool.Decides.{nat_tests}
 use Rattle.alb_mono.specs.Listing.{Each, IsIn, Ascends}
-use Rattle.alb_mono.specs.Tree.{type_le, cmp_types}
-use Rattle.alb_mono.specs.Types.{IsTypeWithin, splits, IsSplit}
+use Rattle.alb_mono.specs.Tree.{type_le, cmp_types, IsTypeWithin, splits, IsSplit}
 use Rattle.alb_mono.proofs.ListingLemmas.{each-weaker, each-member, each-both, each-always}
 use Rattle.alb_mono.proofs.Both.{both_tests}
 use Rattle.alb_mono.proofs.TypesListing.{splits-listing, le-plus}
@@ -15,9 +14,8 @@ use Rattle.alb_poly.specs.Poly.{list_eq}
 use Rattle.alb_linear.proofs.IdentityLemmas.{list_eq-sound, list_eq-itself}
 use Rattle.alb_table.specs.declared.grid.Grid.{Grid}
 use Rattle.alb_table.specs.Grid.{covers, first_cover, Rises}
-use Rattle.alb_table.specs.PartView.{PartView, first_of, dim_of}
+use Rattle.alb_table.specs.Table.{PartView, first_of, dim_of, Table, IsTable}
 use Rattle.alb_table.specs.Stored.{grids_from}
-use Rattle.alb_table.specs.Table.{Table, IsTable}
 use Rattle.alb_table.proofs.GridLemmas.{Covers, covers_fact}
 use Rattle.alb_table.proofs.PartLemmas.{first_here, first_step, sum-plus}
 use Rattle.alb_table.proofs.RangeLemmas.{ats}

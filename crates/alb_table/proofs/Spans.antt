@@ -1,14 +1,13 @@
 -- Combinations of combinations, and spans.
-use Rattle.std.proofs.Common.{◌≡◌, ℕ, zero, suc, ◌*◌, ◌<◌, ◌≤◌, [], ◌∷◌, ◌++◌, sym, refl, ap, ◌∙◌, subst, arith}
+use Rattle.std.proofs.Common.{◌≡◌, ℕ, zero, suc, ◌*◌, ◌<◌, ◌≤◌, [], ◌∷◌, ◌++◌, sym, refl, ap, ◌∙◌, subst, arith, inl, inr, eqb, true, false}
 use Rattle.std.proofs.lemmas.Bool.{cases_eq}
 use Rattle.std.proofs.lemmas.Bool.Decides.{nat_tests}
-use Rattle.std.proofs.Common.{inl, inr, eqb, true, false}
 use Rattle.gf_field.proofs.Mod.{same, ◌⊙◌}
 use Rattle.alb_mono.specs.Tree.{Tree, leaf, node, count}
 use Rattle.gf_sums.specs.Sums.{Comb, weigh, scale}
 use Rattle.gf_sums.proofs.Totals.{total-equal, weigh-append, weigh-scale, weigh-equal}
 use Rattle.gf_sums.proofs.Alike.{Alike, equal, itself, turned, joined, append-alike, scale-alike, weigh-flat}
-use Rattle.alb_poly.specs.Algebra.{evaluate, unit, put}
+use Rattle.alb_poly.specs.Textbook.{evaluate, unit, put}
 use Rattle.alb_problem.proofs.Evaluate.{weigh-swap, evaluate-away, evaluate-linear}
 use Rattle.alb_poly.specs.Poly.{Poly}
 use Rattle.alb_poly.proofs.Consequence.{alike_poly, poly_alike}
@@ -19,7 +18,7 @@ use Rattle.alb_poly.proofs.Parts.{weigh-zero, weigh-each}
 use Rattle.alb_problem.proofs.FormValue.{count-multilinear, evaluate-equal, put_itself}
 use Rattle.alb_table.proofs.Congruent.{weigh-outer}
 use Rattle.alb_table.proofs.Values.{each-scale}
-use Rattle.alb_table.specs.Block.{image, spread, form_row, InSpan}
+use Rattle.alb_table.specs.Block.{image, spread, form_row, InNamedSpan}
 
 -- ---- each index replaced by a combination
 
@@ -45,34 +44,34 @@ spread-scale h c f = equal _ _ (λ w.
 -- ---- spans
 
 module _ {N : Type 0} (p : ℕ) (Named : N → Type 0) (row : N → Poly) where
-  pub span-alike : {x y : Poly} → Alike p x y → InSpan p Named row x → InSpan p Named row y
+  pub span-alike : {x y : Poly} → Alike p x y → InNamedSpan p Named row x → InNamedSpan p Named row y
   span-alike h s = record { items = s.items; named = s.named; gives = poly_alike (joined (turned h) (alike_poly s.gives)) }
 
-  pub span-zero : InSpan p Named row []
+  pub span-zero : InNamedSpan p Named row []
   span-zero = record { items = []; named = tt; gives = poly_alike (itself []) }
 
-  pub span-append : {x y : Poly} → InSpan p Named row x → InSpan p Named row y → InSpan p Named row (x ++ y)
+  pub span-append : {x y : Poly} → InNamedSpan p Named row x → InNamedSpan p Named row y → InNamedSpan p Named row (x ++ y)
   span-append a b = record {
     items = a.items ++ b.items;
     named = each-append _ a.items b.items a.named b.named;
     gives = poly_alike (joined (append-alike (alike_poly a.gives) (alike_poly b.gives)) (turned (spread-append row a.items b.items)));
   }
 
-  pub span-scale : (c : ℕ) {x : Poly} → InSpan p Named row x → InSpan p Named row (scale c x)
+  pub span-scale : (c : ℕ) {x : Poly} → InNamedSpan p Named row x → InNamedSpan p Named row (scale c x)
   span-scale c a = record {
     items = scale c a.items;
     named = each-scale Named c a.items a.named;
     gives = poly_alike (joined (scale-alike c (alike_poly a.gives)) (turned (spread-scale row c a.items)));
   }
 
-  pub span-one : (n : N) → Named n → InSpan p Named row (row n)
+  pub span-one : (n : N) → Named n → InNamedSpan p Named row (row n)
   span-one n h = record {
     items = (1, n) ∷ [];
     named = (h, tt);
     gives = poly_alike (equal _ _ (λ w. sym (weigh-spread w row ((1, n) ∷ []) ∙ omega arith)));
   }
 
-  pub span-spread : {J : Type 0} (h : J → Poly) (u : Comb J) → Each (λ t. InSpan p Named row (h t.1)) u → InSpan p Named row (spread h u)
+  pub span-spread : {J : Type 0} (h : J → Poly) (u : Comb J) → Each (λ t. InNamedSpan p Named row (h t.1)) u → InNamedSpan p Named row (spread h u)
   span-spread h [] a = span-zero
   span-spread h (t ∷ u) a = span-append (span-scale t.0 a.0) (span-spread h u a.1)
 
@@ -132,8 +131,8 @@ module _ {I K : Type 0} (pair : I → I → K) (prod : I → I → Comb I) where
 module _ {I : Type 0} (pair : I → I → Tree) (prod : I → I → Comb I) where
   -- what a span has at all fitting basis elements, it has at all combinations of them
   pub rows-span : {N : Type 0} (p : ℕ) (Named : N → Type 0) (row : N → Poly) (f : Form) → IsMultilinearForm f → (Fits : ℕ → I → Type 0) →
-      ((b : ℕ → I) → ((k : ℕ) → k < f.degree → Fits k (b k)) → InSpan p Named row (form_row pair prod b f)) →
-      (n : ℕ) (v : ℕ → Comb I) → n ≤ f.degree → ((k : ℕ) → k < n → Each (λ t. Fits k t.1) (v k)) → AreFitFrom pair prod Fits f.degree n v → InSpan p Named row (row_at pair prod v f)
+      ((b : ℕ → I) → ((k : ℕ) → k < f.degree → Fits k (b k)) → InNamedSpan p Named row (form_row pair prod b f)) →
+      (n : ℕ) (v : ℕ → Comb I) → n ≤ f.degree → ((k : ℕ) → k < n → Each (λ t. Fits k t.1) (v k)) → AreFitFrom pair prod Fits f.degree n v → InNamedSpan p Named row (row_at pair prod v f)
   rows-span p Named row f m Fits base zero v l a h =
       let at : (j : ℕ) → (i : I) × (v j ≡ unit i) × (j < f.degree → Fits j i) = λ j. h j (omega arith) in
       rw (row-equal pair prod v (λ j. unit (at j).0) f.terms (λ j. (at j).1)) (base (λ j. (at j).0) (λ k q. (at k).2 q))

@@ -7,8 +7,7 @@ use Rattle.std.specs.declared.alloc.Global.{Global}
 use Rattle.gf_sums.specs.Sums.{total}
 use Rattle.alb_table.specs.declared.part.Part.{Part}
 use Rattle.alb_table.specs.declared.stored.Stored.{Stored}
-use Rattle.alb_table.specs.PartView.{PartView, part_view}
-use Rattle.alb_table.specs.Table.{generator_view, first_parts, count_products, count_coefficients}
+use Rattle.alb_table.specs.Table.{PartView, part_view, generator_view, first_parts, count_products, count_coefficients}
 use Rattle.alb_table.specs.Views.{view_of}
 
 -- one more part of degree 1

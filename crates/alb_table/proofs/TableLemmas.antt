@@ -6,8 +6,7 @@ use Rattle.std.proofs.lemmas.Bool.{cases_Bool, cases_lt}
 use Rattle.std.proofs.lemmas.List.{map-append, append-nil, take-append-le, take_all}
 use Rattle.std.proofs.lemmas.List.Concat.{flat_map-append}
 use Rattle.alb_mono.specs.Listing.{Each, IsIn, Ascends}
-use Rattle.alb_mono.specs.Tree.{cmp_types, type_plus}
-use Rattle.alb_mono.specs.Types.{types_of, IsTypeWithin, rising, IsSplit}
+use Rattle.alb_mono.specs.Tree.{cmp_types, type_plus, types_of, IsTypeWithin, rising, IsSplit}
 use Rattle.alb_mono.proofs.ListingLemmas.{each-weaker, each-append, each-member, in-map}
 use Rattle.alb_mono.proofs.TypeLemmas.{length-type_plus, rising_more}
 use Rattle.alb_mono.proofs.TypesListing.{types_of-listing}
@@ -16,11 +15,8 @@ use Rattle.alb_linear.proofs.IdentityLemmas.{list_eq-itself}
 use Rattle.alb_rows.specs.Row.{Cells}
 use Rattle.alb_table.specs.declared.part.Elem.{Elem}
 use Rattle.alb_table.specs.declared.part.Elem.TheVariants.{Gen}
-use Rattle.alb_table.specs.PartView.{PartView, first_of, dim_of, elems, type_at, entries_at}
-use Rattle.alb_table.specs.Entry.{products, entry_of}
-use Rattle.alb_table.specs.Grid.{same_pair, find_entry}
-use Rattle.alb_table.specs.Table.{Table, IsTable, IsPartOf, IsElementOf, IsRowAmong, IsCountable, CoversType, types_to, extended}
-use Rattle.alb_table.specs.Value.{IsVector}
+use Rattle.alb_table.specs.Table.{PartView, first_of, dim_of, elems, type_at, entries_at, products, entry_of, same_pair, find_entry, Table, IsTable, IsPartOf, IsElementOf, IsRowAmong, IsCountable, CoversType, types_to, extended}
+use Rattle.alb_table.specs.Value.{IsBasisRow}
 use Rattle.alb_table.proofs.GridLemmas.{find_empty}
 use Rattle.alb_table.proofs.PartLemmas.{sum-plus, products-extend}
 use Rattle.alb_table.proofs.TypesTo.{IsTypeTo, types_to-each, types_to-all, types_to-ascends, counts_small}
@@ -117,19 +113,19 @@ entries_each : (P : Cells → Type 0) (parts : List PartView) (w : List ℕ) →
 entries_each P [] w h = tt
 entries_each P (q ∷ parts) w h = elim (cases_Bool (list_eq q.at w)) [ inl e ↦ rw e h.0 | inr e ↦ rw e (entries_each P parts w h.1) ]
 
-row_vector : (p n : ℕ) (parts : List PartView) (w : List ℕ) (cells : Cells) → length (elems parts) ≡ n → IsRowAmong p (first_of parts w) (dim_of parts w) cells → IsVector p n cells
+row_vector : (p n : ℕ) (parts : List PartView) (w : List ℕ) (cells : Cells) → length (elems parts) ≡ n → IsRowAmong p (first_of parts w) (dim_of parts w) cells → IsBasisRow p n cells
 row_vector p n parts w cells e r = record {
   row = r.row;
   below = λ k d l. (let a = r.high k d l in let b = range_within parts w in omega (arith, a, b));
 }
 
 -- an entry is a row over the field and the basis numbers
-pub entry_vector : (t : Table) (b c : ℕ) (e : Cells) → IsTable t → entry_of t.parts b c ≡ Some e → IsVector t.p (length (elems t.parts)) e
+pub entry_vector : (t : Table) (b c : ℕ) (e : Cells) → IsTable t → entry_of t.parts b c ≡ Some e → IsBasisRow t.p (length (elems t.parts)) e
 entry_vector t b c e k h =
-    find_each (IsVector t.p (length (elems t.parts))) (b, c) (products t.parts (type_plus (type_at t.parts b) (type_at t.parts c))) (entries_at t.parts (type_plus (type_at t.parts b) (type_at t.parts c))) e
-    (entries_each (IsVector t.p (length (elems t.parts))) t.parts (type_plus (type_at t.parts b) (type_at t.parts c))
-    (each-weaker (IsPartOf t.p t.parts t.parts) (λ (q : PartView). Each (IsVector t.p (length (elems t.parts))) q.entries) t.parts
-    (λ q z. each-weaker (IsRowAmong t.p (first_of t.parts q.at) (dim_of t.parts q.at)) (IsVector t.p (length (elems t.parts))) q.entries
+    find_each (IsBasisRow t.p (length (elems t.parts))) (b, c) (products t.parts (type_plus (type_at t.parts b) (type_at t.parts c))) (entries_at t.parts (type_plus (type_at t.parts b) (type_at t.parts c))) e
+    (entries_each (IsBasisRow t.p (length (elems t.parts))) t.parts (type_plus (type_at t.parts b) (type_at t.parts c))
+    (each-weaker (IsPartOf t.p t.parts t.parts) (λ (q : PartView). Each (IsBasisRow t.p (length (elems t.parts))) q.entries) t.parts
+    (λ q z. each-weaker (IsRowAmong t.p (first_of t.parts q.at) (dim_of t.parts q.at)) (IsBasisRow t.p (length (elems t.parts))) q.entries
     (λ cells r. row_vector t.p (length (elems t.parts)) t.parts q.at cells refl r) z.rows) k.each)) h
 
 -- ---- one degree more

@@ -11,20 +11,16 @@ use Rattle.alb_mono.specs.Listing.{Each}
 use Rattle.alb_mono.specs.Tree.{Tree, degree, are_below, same_tree, AreBelow}
 use Rattle.alb_mono.proofs.Leaves.{below_from_test}
 use Rattle.alb_mono.proofs.ListingLemmas.{each-weaker}
-use Rattle.alb_poly.specs.Algebra.{unit}
+use Rattle.alb_poly.specs.Textbook.{unit}
 use Rattle.alb_poly.specs.Consequence.{IsConsequence}
 use Rattle.alb_poly.specs.Poly.{Poly, IsSamePoly}
 use Rattle.alb_poly.proofs.Consequence.{tree_tells, alike_poly, poly_alike}
 use Rattle.alb_rows.specs.Row.{Cells, comb, AreSameVector}
 use Rattle.gf_sums.proofs.Totals.{numbers-tell}
-use Rattle.alb_table.specs.Entry.{table_product}
+use Rattle.alb_table.specs.Table.{table_product, elems, type_at, monos, mono_at, Table}
 use Rattle.alb_table.specs.Laws.{Decides, IsPolyWithin, HasValue, ValuesAgree, ValuesDecide}
-use Rattle.alb_table.specs.Leading.{IsNormal}
-use Rattle.alb_table.specs.PartView.{elems, type_at, monos, mono_at}
-use Rattle.alb_table.specs.Right.{poly_value}
-use Rattle.alb_table.specs.RightFor.{RulesView, IsRightFor}
-use Rattle.alb_table.specs.RightTable.{basis_monos, mono_entry}
-use Rattle.alb_table.specs.Table.{Table}
+use Rattle.alb_table.specs.Right.{IsNormal, poly_value}
+use Rattle.alb_table.specs.RightTable.{RulesView, IsRightFor, basis_monos, mono_entry}
 use Rattle.alb_table.specs.Value.{generator_vector, table_value}
 use Rattle.alb_table.proofs.Coefficients.{each-coefficient}
 use Rattle.alb_table.proofs.Congruent.{congruent-alike, congruent-joined}

@@ -9,9 +9,9 @@ use Rattle.alb_poly.specs.Instance.{IsMultilinear, fill}
 use Rattle.alb_poly.proofs.Multilinear.{leaves-multilinear}
 use Rattle.alb_poly.proofs.Parts.{count-leaves, count-within, listed-equal}
 use Rattle.alb_mono.specs.declared.side.Side.{Side}
-use Rattle.alb_poly.specs.Context.{within}
+use Rattle.alb_poly.specs.Consequence.{within}
 use Rattle.gf_sums.specs.Sums.{total}
-use Rattle.alb_table.specs.Leading.{SameType}
+use Rattle.alb_table.specs.Right.{SameType}
 
 pub type-itself : (x : Tree) → SameType x x
 type-itself x = record { counts = λ k. refl }

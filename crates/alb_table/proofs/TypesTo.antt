@@ -6,9 +6,8 @@ use Rattle.std.specs.Ordering.{nat_cmp}
 use Rattle.std.specs.declared.cmp.Ordering.TheVariants.{Less, Equal}
 use Rattle.std.proofs.lemmas.Bool.Decides.{nat_tests}
 use Rattle.std.proofs.lemmas.Cmp.{tied_itself}
-use Rattle.alb_mono.specs.Tree.{type_le, cmp_types}
+use Rattle.alb_mono.specs.Tree.{type_le, cmp_types, types_of, IsTypeWithin, rising}
 use Rattle.alb_mono.specs.Listing.{Each, IsIn, Ascends}
-use Rattle.alb_mono.specs.Types.{types_of, IsTypeWithin, rising}
 use Rattle.alb_mono.proofs.Order.{cmp_types_total}
 use Rattle.alb_mono.proofs.TypeLemmas.{le_at}
 use Rattle.alb_mono.proofs.TypesListing.{types_of-listing}

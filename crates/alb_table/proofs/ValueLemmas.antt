@@ -11,17 +11,14 @@ use Rattle.gf_sums.proofs.Alike.{Alike, alike-same, same-alike, joined, turned, 
 use Rattle.alb_rows.specs.Row.{Cells, comb, AreSameVector}
 use Rattle.gf_sums.proofs.Totals.{numbers-tell}
 use Rattle.alb_rows.proofs.RowLemmas.{zero_is_empty, empty_is_zero}
-use Rattle.alb_mono.specs.Mono.{tree}
+use Rattle.alb_mono.specs.Tree.{tree, Tree, leaf, node, AreBelow}
 use Rattle.alb_mono.specs.Listing.{Each}
-use Rattle.alb_mono.specs.Tree.{Tree, leaf, node, AreBelow}
 use Rattle.alb_poly.specs.declared.term.Term.{Term}
 use Rattle.alb_poly.specs.Terms.{term, terms}
-use Rattle.alb_poly.specs.Algebra.{evaluate, evaluate_poly, unit}
+use Rattle.alb_poly.specs.Textbook.{evaluate, evaluate_poly, unit}
 use Rattle.alb_poly.specs.Poly.{Poly}
-use Rattle.alb_table.specs.PartView.{PartView}
-use Rattle.alb_table.specs.Entry.{entry_of, table_product}
-use Rattle.alb_table.specs.Table.{Table}
-use Rattle.alb_table.specs.Value.{IsVector, times_right, vectors, generator_vector, table_value}
+use Rattle.alb_table.specs.Table.{PartView, entry_of, table_product, Table}
+use Rattle.alb_table.specs.Value.{IsBasisRow, times_right, vectors, generator_vector, table_value}
 
 -- equal vectors are alike
 pub vector-alike : {p : ℕ} {f g : Comb ℕ} → AreSameVector p f g → Alike p f g
@@ -127,14 +124,14 @@ value_more t ts rows acc val next i d l dd v h k n =
     (vector (joined (vector-alike n) (append-alike (vector-alike h) (scale-alike d.coef (vector-alike g)))))
 
 -- the zero row
-pub none_vector : (p n : ℕ) → IsVector p n []
+pub none_vector : (p n : ℕ) → IsBasisRow p n []
 none_vector p n = record {
   row = record { row = record { ascending = λ i j d l m. absurd (omega arith); nonzero = λ k d l. absurd (omega arith) }; residues = λ k d l. absurd (omega arith) };
   below = λ k d l. absurd (omega arith);
 }
 
 -- a row is zero exactly where its value is
-pub zero_exactly : (p n : ℕ) (r : Cells) (f : Comb ℕ) → IsVector p n r → AreSameVector p (comb r) f → (r ≡ []) ↔ AreSameVector p f []
+pub zero_exactly : (p n : ℕ) (r : Cells) (f : Comb ℕ) → IsBasisRow p n r → AreSameVector p (comb r) f → (r ≡ []) ↔ AreSameVector p f []
 zero_exactly p n r f v h = (
   λ e. vector {g = []} (joined (turned (vector-alike {f = comb r} {g = f} h)) (vector-alike {f = comb r} {g = []} (empty_is_zero p r e))),
   λ z. zero_is_empty p r v.row.row v.row.residues (vector {g = []} (joined (vector-alike {f = comb r} {g = f} h) (vector-alike {f = f} {g = []} z))),

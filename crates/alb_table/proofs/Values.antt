@@ -11,7 +11,7 @@ use Rattle.alb_mono.specs.Tree.{Tree, leaf, node, cmp_trees, same_tree}
 use Rattle.alb_mono.proofs.Order.{cmp_trees_total, trees_equal}
 use Rattle.gf_sums.specs.Sums.{Comb, weigh, scale, multiply}
 use Rattle.gf_sums.proofs.Totals.{total-equal, weigh-append, weigh-scale}
-use Rattle.alb_poly.specs.Algebra.{unit}
+use Rattle.alb_poly.specs.Textbook.{unit}
 use Rattle.gf_sums.proofs.Alike.{Alike, equal, itself, turned, weigh-flat}
 use Rattle.alb_poly.specs.Poly.{Poly, product}
 use Rattle.alb_poly.specs.Instance.{Form}
@@ -19,12 +19,11 @@ use Rattle.alb_poly.specs.Consequence.{IsConsequence, AreMultilinear}
 use Rattle.alb_mono.specs.Listing.{Each}
 use Rattle.alb_poly.proofs.Multilinear.{each-append, each-from, each-map, each-flat}
 use Rattle.alb_poly.proofs.Consequence.{tree_tells, alike_poly, consequence-zero}
-use Rattle.alb_table.specs.Leading.{SameType, IsZeroAt, LeadsWith, IsNormal, difference, IsCongruent}
+use Rattle.alb_table.specs.Right.{SameType, IsZeroAt, LeadsWith, IsNormal, difference, IsCongruent, mono_value, poly_value, IsBasis, IsPart, StandsFor}
 use Rattle.alb_table.proofs.Types.{type-itself, type-turned, type-joined, type-node}
 use Rattle.alb_table.proofs.Coefficients.{keep, each-filter, filter-each, each-coefficient, coefficient-kept, order_cases, greater-turned, greater-joined, less-turned}
 use Rattle.alb_table.proofs.Normal.{IsLower, leads-by, led-leading, leading-found, normal-zero}
 use Rattle.alb_table.proofs.Congruent.{minus_twice, zero-difference, consequence-alike, congruent-alike, congruent-joined, congruent-turned, congruent-scale, congruent-flat, congruent-product, congruent-consequence}
-use Rattle.alb_table.specs.Right.{mono_value, poly_value, IsBasis, IsPart, StandsFor}
 use Rattle.alb_table.proofs.Bases.{IsTable}
 
 pub each-scale : {I : Type 0} (P : I → Type 0) (c : ℕ) (f : Comb I) → Each (λ t. P t.1) f → Each (λ t. P t.1) (scale c f)

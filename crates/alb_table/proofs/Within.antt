@@ -5,14 +5,13 @@ use Rattle.std.specs.Prelude.{nat_le}
 use Rattle.std.proofs.lemmas.Bool.{cases_eq, cases_lt}
 use Rattle.std.proofs.lemmas.Bool.Decides.{nat_tests}
 use Rattle.alb_mono.specs.Tree.{Tree, leaf, node, degree, count, listed, type_of, type_le, AreBelow}
-use Rattle.alb_poly.specs.Instance.{run}
+use Rattle.alb_poly.specs.Instance.{total_from}
 use Rattle.alb_mono.proofs.Leaves.{below_from_test}
 use Rattle.alb_mono.proofs.Both.{and_left, and_right}
 pub use Rattle.alb_linear.proofs.LinearLemmas.{test_from_below}
-use Rattle.alb_table.specs.Leading.{SameType}
+use Rattle.alb_table.specs.Right.{SameType, IsOfType, IsWithinDegree}
 use Rattle.alb_table.proofs.Types.{type-turned, type-listed}
 use Rattle.alb_table.proofs.Bases.{IsClosed, IsNext, IsBlock}
-use Rattle.alb_table.specs.Right.{IsOfType, IsWithin}
 
 -- no generator from `n` on occurs
 pub none-past : (n k : ℕ) (m : Tree) → AreBelow n m → n ≤ k → count k m ≡ 0
@@ -29,19 +28,19 @@ below-none n (node a b) h = (below-none n a (λ k l. omega (arith, h k l)), belo
 pub below-same : (n : ℕ) (x y : Tree) → SameType x y → AreBelow n x → AreBelow n y
 below-same n x y s h = below-none n y (λ k l. sym (s.counts k) ∙ none-past n k x h l)
 
-pub run-equal : (v w : ℕ → ℕ) (k n : ℕ) → ((j : ℕ) → v j ≡ w j) → run v k n ≡ run w k n
+pub run-equal : (v w : ℕ → ℕ) (k n : ℕ) → ((j : ℕ) → v j ≡ w j) → total_from v k n ≡ total_from w k n
 run-equal v w k zero h = refl
 run-equal v w k (suc n) h = rw (h k, run-equal v w (suc k) n h)
 
-run-sum : (v w : ℕ → ℕ) (k n : ℕ) → run (λ j. v j + w j) k n ≡ run v k n + run w k n
+run-sum : (v w : ℕ → ℕ) (k n : ℕ) → total_from (λ j. v j + w j) k n ≡ total_from v k n + total_from w k n
 run-sum v w k zero = refl
 run-sum v w k (suc n) = omega (arith, run-sum v w (suc k) n)
 
-run-absent : (j k n : ℕ) → j < k → run (λ i. count i (leaf j)) k n ≡ 0
+run-absent : (j k n : ℕ) → j < k → total_from (λ i. count i (leaf j)) k n ≡ 0
 run-absent j k zero h = refl
 run-absent j k (suc n) h = let e : eqb j k ≡ false = grind (arith, nat_tests) in rw e (omega (arith, run-absent j (suc k) n (omega arith)))
 
-run-once : (j k n : ℕ) → k ≤ j → j < k + n → run (λ i. count i (leaf j)) k n ≡ 1
+run-once : (j k n : ℕ) → k ≤ j → j < k + n → total_from (λ i. count i (leaf j)) k n ≡ 1
 run-once j k zero h l = absurd (omega arith)
 run-once j k (suc n) h l = elim (cases_eq j k) [
   | inl e ↦ let q : eqb j k ≡ true = grind (arith, nat_tests) in rw q (omega (arith, run-absent j (suc k) n (omega arith)))
@@ -49,7 +48,7 @@ run-once j k (suc n) h l = elim (cases_eq j k) [
 ]
 
 -- the degree is the sum of the counts
-pub degree-counts : (n : ℕ) (m : Tree) → AreBelow n m → run (λ i. count i m) 0 n ≡ degree m
+pub degree-counts : (n : ℕ) (m : Tree) → AreBelow n m → total_from (λ i. count i m) 0 n ≡ degree m
 degree-counts n (leaf j) h = run-once j 0 n (omega arith) (omega arith)
 degree-counts n (node l r) h = run-sum (λ i. count i l) (λ i. count i r) 0 n ∙ rw (degree-counts n l h.0, degree-counts n r h.1)
 
@@ -94,44 +93,44 @@ degree-positive (leaf k) = omega arith
 degree-positive (node l r) = omega (arith, degree-positive l)
 
 module _ (target : List ℕ) (d : ℕ) where
-  within-left : (l r : Tree) → IsWithin target d (node l r) → IsWithin target d l
+  within-left : (l r : Tree) → IsWithinDegree target d (node l r) → IsWithinDegree target d l
   within-left l r h = record { below = and_left _ _ h.below; type = le-factor (length target) (node l r) l target (λ j. omega arith) h.type; degree = omega (arith, h.degree, degree-positive r) }
 
-  within-right : (l r : Tree) → IsWithin target d (node l r) → IsWithin target d r
+  within-right : (l r : Tree) → IsWithinDegree target d (node l r) → IsWithinDegree target d r
   within-right l r h = record { below = and_right _ _ h.below; type = le-factor (length target) (node l r) r target (λ j. omega arith) h.type; degree = omega (arith, h.degree, degree-positive l) }
 
-  pub within-same : (x y : Tree) → SameType x y → IsWithin target d x → IsWithin target d y
+  pub within-same : (x y : Tree) → SameType x y → IsWithinDegree target d x → IsWithinDegree target d y
   within-same x y s h = record {
     below = test_from_below (length target) y (below-same (length target) x y s (below_from_test (length target) x h.below));
     type = subst (λ t. IsTrue (type_le t target)) (type-listed (length target) x y s) h.type;
     degree = subst (λ n. n ≤ d) (degree-same x y s) h.degree;
   }
 
-  pub within-closed : IsClosed (IsWithin target d)
+  pub within-closed : IsClosed (IsWithinDegree target d)
   within-closed = record { left = within-left; right = within-right; respects = within-same }
 
-  pub within-more : (m : Tree) → IsWithin target d m → IsWithin target (d + 1) m
+  pub within-more : (m : Tree) → IsWithinDegree target d m → IsWithinDegree target (d + 1) m
   within-more m h = record { below = h.below; type = h.type; degree = omega (arith, h.degree) }
 
   -- a monomial of the next degree, or one of the table
-  pub within-cases : (m : Tree) → IsWithin target (d + 1) m → IsWithin target d m ⊎ (degree m ≡ d + 1)
+  pub within-cases : (m : Tree) → IsWithinDegree target (d + 1) m → IsWithinDegree target d m ⊎ (degree m ≡ d + 1)
   within-cases m h = elim (cases_lt d (degree m)) [
     | inl l ↦ inr (omega (arith, h.degree))
     | inr g ↦ inl (record { below = h.below; type = h.type; degree = g })
   ]
 
   -- the monomials of one type of the next degree are products of monomials of the table
-  pub within-block : (z : Tree) → 1 ≤ d → IsWithin target (d + 1) z → degree z ≡ d + 1 → IsBlock (IsWithin target d) z
+  pub within-block : (z : Tree) → 1 ≤ d → IsWithinDegree target (d + 1) z → degree z ≡ d + 1 → IsBlock (IsWithinDegree target d) z
   within-block z pos h e = record { next = λ x s. factors x (omega (arith, degree-same x z s)) (same_within x s) }
     where
-      same_within : (x : Tree) → SameType x z → IsWithin target (d + 1) x
+      same_within : (x : Tree) → SameType x z → IsWithinDegree target (d + 1) x
       same_within x s = record {
         below = test_from_below (length target) x (below-same (length target) z x (type-turned s) (below_from_test (length target) z h.below));
         type = subst (λ t. IsTrue (type_le t target)) (type-listed (length target) z x (type-turned s)) h.type;
         degree = omega (arith, degree-same x z s, h.degree);
       }
 
-      factors : (x : Tree) → degree x ≡ d + 1 → IsWithin target (d + 1) x → IsNext (IsWithin target d) x
+      factors : (x : Tree) → degree x ≡ d + 1 → IsWithinDegree target (d + 1) x → IsNext (IsWithinDegree target d) x
       factors (leaf k) q w = absurd (omega arith)
       factors (node l r) q w = (
         record { below = and_left _ _ w.below; type = le-factor (length target) (node l r) l target (λ j. omega arith) w.type; degree = omega (arith, degree-positive r) },

@@ -7,12 +7,11 @@ use Rattle.std.specs.declared.cmp.Ordering.TheVariants.{Greater}
 use Rattle.gf_sums.specs.Sums.{total, Comb, scale}
 use Rattle.alb_mono.specs.Listing.{Each}
 use Rattle.alb_mono.specs.Tree.{Tree, leaf, node, count, listed, cmp_trees}
-use Rattle.alb_poly.specs.Algebra.{evaluate, unit}
+use Rattle.alb_poly.specs.Textbook.{evaluate, unit}
 use Rattle.alb_poly.specs.Poly.{Poly, IsSamePoly}
 use Rattle.alb_poly.specs.Instance.{Form}
 use Rattle.alb_poly.specs.Consequence.{form_at}
-use Rattle.alb_table.specs.Leading.{IsZeroAt, difference, outer}
-use Rattle.alb_table.specs.Right.{IsOfType, IsWithin, IsBasisTo, IsTypeTo}
+use Rattle.alb_table.specs.Right.{IsZeroAt, difference, outer, IsOfType, IsWithinDegree, IsBasisTo, IsTypeTo}
 
 -- ---- rows
 
@@ -34,7 +33,7 @@ abbrev pub form_row : {I K : Type 0} → (I → I → K) → (I → I → Comb I
 form_row pair prod b f = spread (image pair prod (λ k. unit (b k))) f.terms
 
 -- a combination of rows, each of which has a name
-pub record InSpan {N : Type 0} (p : ℕ) (Named : N → Type 0) (row : N → Poly) (x : Poly) : Type 0 where
+pub record InNamedSpan {N : Type 0} (p : ℕ) (Named : N → Type 0) (row : N → Poly) (x : Poly) : Type 0 where
   pub items : Comb N
   pub named : Each (λ t. Named t.1) items
   pub gives : IsSamePoly p x (spread row items)
@@ -62,15 +61,15 @@ pub record IsColumnAt (p : ℕ) (fs : List Form) (target : List ℕ) (d : ℕ) (
   pub type : IsOfType t m
 
 -- the greatest monomial of an element of the span
-pub record IsPivot {N : Type 0} (p : ℕ) (Named : N → Type 0) (row : N → Poly) (m : Tree) : Type 0 where
+pub record IsPivotMonomial {N : Type 0} (p : ℕ) (Named : N → Type 0) (row : N → Poly) (m : Tree) : Type 0 where
   pub element : Poly
-  pub in_span : InSpan p Named row element
+  pub in_span : InNamedSpan p Named row element
   pub nonzero : IsZeroAt p element m → ⊥
   pub greatest : (x : Tree) → cmp_trees x m ≡ Greater → IsZeroAt p element x
 
 -- the greatest column of an element of the span of the rows of type `t`
 abbrev pub IsPivotAt : ℕ → List Form → List ℕ → ℕ → (Tree → Tree → Poly) → List ℕ → Tree → Type 0
-IsPivotAt p fs target d entry t m = IsPivot p (IsTupleAt p fs target d t) (tuple_row fs entry) m
+IsPivotAt p fs target d entry t m = IsPivotMonomial p (IsTupleAt p fs target d t) (tuple_row fs entry) m
 
 -- a column that is no pivot
 pub record IsFreeAt (p : ℕ) (fs : List Form) (target : List ℕ) (d : ℕ) (entry : Tree → Tree → Poly) (t : List ℕ) (m : Tree) : Type 0 where
@@ -86,7 +85,7 @@ pub record AreFreeAt (p : ℕ) (fs : List Form) (target : List ℕ) (d : ℕ) (e
 -- `e` is a combination of columns that are no pivots, and differs from the column `m` by an element of the span
 pub record IsEntryAt (p : ℕ) (fs : List Form) (target : List ℕ) (d : ℕ) (entry : Tree → Tree → Poly) (t : List ℕ) (m : Tree) (e : Poly) : Type 0 where
   pub free : Each (λ s. IsFreeAt p fs target d entry t s.1) e
-  pub in_span : InSpan p (IsTupleAt p fs target d t) (tuple_row fs entry) (difference p (unit m) e)
+  pub in_span : InNamedSpan p (IsTupleAt p fs target d t) (tuple_row fs entry) (difference p (unit m) e)
 
 -- ---- a table that grows by one degree
 
@@ -96,7 +95,7 @@ pub record Grows (p : ℕ) (fs : List Form) (target : List ℕ) (d : ℕ) (basis
     (basis' : List ℕ → List Tree) (entry' : Tree → Tree → Poly) : Type 0 where
   pub old_bases : (t : List ℕ) → IsTypeTo target d t → basis' t ≡ basis t
   pub new_bases : (t : List ℕ) → IsTypeTo target (d + 1) t → sum t ≡ d + 1 → AreFreeAt p fs target d entry t (basis' t)
-  pub old_entries : (b c : Tree) → IsBasisTo p fs target d b → IsBasisTo p fs target d c → IsWithin target d (node b c) → entry' b c ≡ entry b c
+  pub old_entries : (b c : Tree) → IsBasisTo p fs target d b → IsBasisTo p fs target d c → IsWithinDegree target d (node b c) → entry' b c ≡ entry b c
   pub new_entries : (t : List ℕ) (b c : Tree) → IsTypeTo target (d + 1) t → sum t ≡ d + 1 → IsColumnAt p fs target d t (node b c)
       → IsEntryAt p fs target d entry t (node b c) (entry' b c)
 
@@ -114,4 +113,4 @@ pub record AreOriginsAt (p : ℕ) (fs : List Form) (target : List ℕ) (d : ℕ)
   pub pivots : List Tree
   pub are_pivots : ArePivotsAt p fs target d entry t pivots
   pub count : length names ≡ length pivots
-  pub spans : (name : ℕ × List Tree) → IsTupleAt p fs target d t name → InSpan p (Contains names) (tuple_row fs entry) (tuple_row fs entry name)
+  pub spans : (name : ℕ × List Tree) → IsTupleAt p fs target d t name → InNamedSpan p (Contains names) (tuple_row fs entry) (tuple_row fs entry name)

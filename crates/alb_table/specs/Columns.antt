@@ -9,7 +9,7 @@ use Rattle.alb_mono.specs.Listing.{Each}
 use Rattle.alb_mono.specs.Tree.{Tree, leaf, cmp_trees, same_tree}
 use Rattle.alb_poly.specs.Poly.{Poly}
 use Rattle.alb_rows.specs.Span as Vectors
-use Rattle.alb_table.specs.Block.{InSpan}
+use Rattle.alb_table.specs.Block.{InNamedSpan}
 
 -- the vector of a polynomial over a list of columns: a place past the end has 0
 abbrev pub vector_of : List Tree → Poly → ℕ → ℕ
@@ -30,7 +30,7 @@ col cols j = slice_index_or cols j (leaf 0)
 -- an element of the span of the rows, with its vector
 pub record HasElement {N : Type 0} (p : ℕ) (Named : N → Type 0) (row : N → Poly) (cols : List Tree) (v : ℕ → ℕ) : Type 0 where
   pub element : Poly
-  pub in_span : InSpan p Named row element
+  pub in_span : InNamedSpan p Named row element
   pub vector : (j : ℕ) → IsSameMod p (v j) (vector_of cols element j)
 
 -- The vectors `f` have the span of the named rows: each is that of an element, and the vector of each row is in their span.

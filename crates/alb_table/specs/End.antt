@@ -1,9 +1,7 @@
 -- How the building of tables ends.
 use Rattle.std.specs.Prelude.{◌≡◌, ℕ, ◌+◌, ◌<◌, ◌≤◌, nat_lt, if◌then◌else◌, List, [], ◌∷◌, Option, None, Some, sum}
 use Rattle.alb_poly.specs.Instance.{Form}
-use Rattle.alb_table.specs.PartView.{PartView}
-use Rattle.alb_table.specs.Table.{Table, IsTable, count_coefficients, extended}
-use Rattle.alb_table.specs.Limits.{next_types, wide, next_products, most_of_type, most_products, most_coefficients}
+use Rattle.alb_table.specs.Table.{PartView, Table, IsTable, count_coefficients, extended, next_types, wide, next_products, most_of_type, most_products, most_coefficients}
 use Rattle.alb_table.specs.Right.{IsRight}
 use Rattle.alb_table.specs.RightTable.{basis_monos, mono_entry}
 use Rattle.alb_table.specs.declared.end.BuildEnd.{BuildEnd}

@@ -2,15 +2,9 @@
 use Rattle.std.specs.Prelude.{◌≡◌, ℕ, ◌+◌, ◌-◌, ◌*◌, ◌≤◌, ◌<◌, ◌==◌, nat_le, nat_lt, Bool, ◌&&◌, if◌then◌else◌, List, [], ◌∷◌, map, Option, Some, None}
 use Rattle.std.specs.List.{flat_map}
 use Rattle.alb_mono.specs.Listing.{Each}
-use Rattle.alb_mono.specs.Types.{rising}
+use Rattle.alb_mono.specs.Tree.{rising}
 use Rattle.alb_table.specs.declared.grid.Grid.{Grid}
-
-abbrev pub same_pair : ℕ × ℕ → ℕ × ℕ → Bool
-same_pair x k = x.0 == k.0 && x.1 == k.1
-
--- all pairs of n numbers from a on and m numbers from b on, ascending
-abbrev pub rectangle : ℕ → ℕ → ℕ → ℕ → List (ℕ × ℕ)
-rectangle a n b m = flat_map (λ i. map (λ j. (i, j)) (rising b m)) (rising a n)
+use Rattle.alb_table.specs.Table.{rectangle}
 
 abbrev pub cells_of : Grid → List (ℕ × ℕ)
 cells_of g = rectangle g.left g.lefts g.right g.rights
@@ -18,12 +12,6 @@ cells_of g = rectangle g.left g.lefts g.right g.rights
 -- both numbers are below n
 abbrev pub ArePairsBelow : ℕ → List (ℕ × ℕ) → Type 0
 ArePairsBelow n ks = Each (λ k. (k.0 < n) × (k.1 < n)) ks
-
--- the entry beside a key
-abbrev pub find_entry : {E : Type 0} → ℕ × ℕ → List (ℕ × ℕ) → List E → Option E
-find_entry k [] es = None
-find_entry k (x ∷ xs) [] = None
-find_entry k (x ∷ xs) (e ∷ es) = if same_pair x k then Some e else find_entry k xs es
 
 -- ---- how a product is found. What is stored keeps the first two; the others stand in contracts of private functions alone.
 

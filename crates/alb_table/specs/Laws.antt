@@ -5,17 +5,14 @@ use Rattle.alb_mono.specs.Tree.{Tree, leaf, node}
 use Rattle.alb_poly.specs.Poly.{Poly, IsSamePoly}
 use Rattle.alb_poly.specs.Instance.{Form}
 use Rattle.alb_poly.specs.Consequence.{IsConsequence, AreMultilinear}
-use Rattle.alb_table.specs.Leading.{IsNormal, IsCongruent}
-use Rattle.alb_table.specs.Right.{AreHigh, poly_value, IsOfType, IsWithin, IsBasisTo, IsTypeTo, IsRight}
+use Rattle.alb_table.specs.Right.{IsNormal, IsCongruent, AreHigh, poly_value, IsOfType, IsWithinDegree, IsBasisTo, IsTypeTo, IsRight}
 use Rattle.alb_table.specs.Block.{Grows}
-use Rattle.alb_table.specs.PartView.{elems, mono_at}
-use Rattle.alb_table.specs.RightFor.{RulesView, IsRightFor}
-use Rattle.alb_table.specs.RightTable.{mono_entry}
-use Rattle.alb_table.specs.Table.{Table, IsTarget, first_table}
-use Rattle.alb_table.specs.Value.{IsVector, table_value}
+use Rattle.alb_table.specs.Table.{elems, mono_at, Table, IsTarget, first_table}
+use Rattle.alb_table.specs.RightTable.{RulesView, IsRightFor, mono_entry}
+use Rattle.alb_table.specs.Value.{IsBasisRow, table_value}
 use Rattle.alb_rows.specs.Row.{Cells, comb, AreSameVector}
 use Rattle.gf_sums.specs.Sums.{reindex}
-use Rattle.gf_field.specs.Primes.{IsInTable}
+use Rattle.gf_field.specs.Modular.{IsInTable}
 
 -- both factors of a normal product are normal
 abbrev pub FactorsAreNormal : Type 0
@@ -32,11 +29,11 @@ pub record Decides (p : ℕ) (fs : List Form) (g f : Poly) : Type 0 where
 -- over monomials: the value of a polynomial within a right table decides it
 abbrev pub MonomialValuesDecide : Type 0
 MonomialValuesDecide = (p : ℕ) (fs : List Form) (target : List ℕ) (d : ℕ) (basis : List ℕ → List Tree) (entry : Tree → Tree → Poly) (g : Poly)
-    → 0 < p → AreMultilinear fs → AreHigh fs → IsRight p fs target d basis entry → Each (λ t. IsWithin target d t.1) g → Decides p fs g (poly_value entry g)
+    → 0 < p → AreMultilinear fs → AreHigh fs → IsRight p fs target d basis entry → Each (λ t. IsWithinDegree target d t.1) g → Decides p fs g (poly_value entry g)
 
 -- every monomial of `g` is within the table
 abbrev pub IsPolyWithin : Table → Poly → Type 0
-IsPolyWithin t g = Each (λ s. IsWithin t.target t.degree s.1) g
+IsPolyWithin t g = Each (λ s. IsWithinDegree t.target t.degree s.1) g
 
 -- the value of a polynomial within a right table, each basis element replaced by its monomial, is the value over monomials
 abbrev pub ValuesAgree : Type 0
@@ -45,7 +42,7 @@ ValuesAgree = (r : RulesView) (t : Table) (g : Poly) → IsRightFor r t → IsPo
 
 -- a row with the value of `g`, as `Tables::value` gives it
 pub record HasValue (t : Table) (g : Poly) (cells : Cells) : Type 0 where
-  pub row : IsVector t.p (length (elems t.parts)) cells
+  pub row : IsBasisRow t.p (length (elems t.parts)) cells
   pub value : AreSameVector t.p (comb cells) (table_value t g)
 
 -- what the row says of `g`: its polynomial decides it, and it is empty exactly where `g` is a consequence
@@ -60,7 +57,7 @@ ValuesDecide = (r : RulesView) (t : Table) (g : Poly) (cells : Cells) → IsRigh
 -- two tables have the same bases, and equal entries wherever the product is within
 pub record AreSameTables (p : ℕ) (fs : List Form) (target : List ℕ) (d : ℕ) (basis basis' : List ℕ → List Tree) (entry entry' : Tree → Tree → Poly) : Type 0 where
   pub bases : (t : List ℕ) → IsTypeTo target d t → basis t ≡ basis' t
-  pub entries : (b c : Tree) → IsBasisTo p fs target d b → IsBasisTo p fs target d c → IsWithin target d (node b c) → IsSamePoly p (entry b c) (entry' b c)
+  pub entries : (b c : Tree) → IsBasisTo p fs target d b → IsBasisTo p fs target d c → IsWithinDegree target d (node b c) → IsSamePoly p (entry b c) (entry' b c)
 
 -- the field, the identities, the target and the degree determine the right table
 abbrev pub RightTableIsUnique : Type 0
@@ -75,14 +72,14 @@ RightTablesGrow = (p : ℕ) (fs : List Form) (target : List ℕ) (d : ℕ) (basi
     → IsRight p fs target (d + 1) basis' entry'
 
 -- each type of degree 1 has its generator, and the type of degree 0 nothing
-pub record IsFirst (target : List ℕ) (basis : List ℕ → List Tree) : Type 0 where
+pub record IsFirstBasis (target : List ℕ) (basis : List ℕ → List Tree) : Type 0 where
   pub generators : (t : List ℕ) → IsTypeTo target 1 t → sum t ≡ 1 → (k : ℕ) × IsOfType t (leaf k) × (basis t ≡ leaf k ∷ [])
   pub none : (t : List ℕ) → sum t ≡ 0 → basis t ≡ []
 
 -- the table of the generators, with whatever entries, is right to degree 1
 abbrev pub FirstTableIsRight : Type 0
 FirstTableIsRight = (p : ℕ) (fs : List Form) (target : List ℕ) (basis : List ℕ → List Tree) (entry : Tree → Tree → Poly)
-    → AreMultilinear fs → AreHigh fs → IsFirst target basis → IsRight p fs target 1 basis entry
+    → AreMultilinear fs → AreHigh fs → IsFirstBasis target basis → IsRight p fs target 1 basis entry
 
 -- the table of degree 1 is right, for whatever identities of degree 2 or more
 abbrev pub GeneratorsAreRight : Type 0

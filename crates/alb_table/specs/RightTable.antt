@@ -1,16 +1,18 @@
--- Right tables: those of the relatively free algebra of some identities.
-use Rattle.std.specs.Prelude.{◌≡◌, ℕ, ◌-◌, ◌<◌, ◌≤◌, List, [], length, map, sum}
+-- Right tables: those of the relatively free algebra of some rules.
+use Rattle.std.specs.Prelude.{◌≡◌, ℕ, ◌-◌, ◌<◌, ◌≤◌, List, [], length, map, sum, ◌^◌}
 use Rattle.alb_mono.specs.Listing.{Each}
-use Rattle.alb_mono.specs.Tree.{Tree}
-use Rattle.alb_mono.specs.Types.{rising}
+use Rattle.alb_mono.specs.Tree.{Tree, rising}
 use Rattle.alb_poly.specs.Poly.{Poly}
 use Rattle.alb_poly.specs.Instance.{Form}
 use Rattle.alb_table.specs.Block.{AreOriginsAt}
-use Rattle.alb_table.specs.Entry.{table_product}
-use Rattle.alb_table.specs.Limits.{IsWithinLimits}
-use Rattle.alb_table.specs.PartView.{PartView, elems, first_of, dim_of, origins_at, monos, mono_at}
-use Rattle.alb_table.specs.Right.{IsRight, entry_by}
-use Rattle.alb_table.specs.Table.{Table, CoversType}
+use Rattle.alb_table.specs.Table.{table_product, IsWithinLimits, PartView, elems, first_of, dim_of, origins_at, monos, mono_at, Table, CoversType, IsTable, IsTarget}
+use Rattle.alb_table.specs.Right.{IsRight, entry_by, AreHigh}
+use Rattle.gf_field.specs.Modular.{IsInTable}
+use Rattle.alb_poly.specs.Consequence.{AreMultilinear, forms}
+use Rattle.alb_poly.specs.declared.rules.Rules.{Rules}
+use Rattle.alb_linear.specs.Identity.{IsLinearized}
+
+-- ---- right tables: those of the relatively free algebra of some identities
 
 -- the basis monomials of a type
 abbrev pub basis_monos : List PartView → List ℕ → List Tree
@@ -42,3 +44,33 @@ pub record IsRightTable (fs : List Form) (t : Table) : Type 0 where
   pub right : IsMultiplicationTable fs t
   pub books : KeepsBooks fs t
   pub open books use *
+
+-- ---- rules as contracts see them, and the tables that are right for them
+
+-- rules: the number of elements of a field, how often each generator may occur, and forms
+pub record RulesView : Type 0 where
+  pub p : ℕ
+  pub target : List ℕ
+  pub forms : List Form
+
+abbrev pub rules_view : Rules → RulesView
+rules_view r = record { p = r.field; target = r.target; forms = forms r }
+
+-- what a table is built for: linearized forms of degree 2 to 8 over a field of the table of primes, whose numbers have 32 bits
+pub record AreRules (r : RulesView) : Type 0 where
+  pub prime : IsInTable r.p
+  pub goal : IsTarget r.target
+  pub linearized : Each (IsLinearized r.p) r.forms
+  pub high : AreHigh r.forms
+  pub low : Each (λ f. f.degree ≤ 8) r.forms
+  pub few : length r.forms < 2 ^ 32
+
+-- THE TABLE IS RIGHT FOR THE RULES: it has their field and their target, and is a right table of their forms, which are
+-- multilinear and have degree 2 or more
+pub record IsRightFor (r : RulesView) (t : Table) : Type 0 where
+  pub field : t.p ≡ r.p
+  pub target : t.target ≡ r.target
+  pub multilinear : AreMultilinear r.forms
+  pub high : AreHigh r.forms
+  pub table : IsTable t
+  pub right : IsRightTable r.forms t

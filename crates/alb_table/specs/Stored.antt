@@ -1,7 +1,7 @@
 -- How the products of a type are stored. Contracts of private functions alone speak of it.
 use Rattle.std.specs.Prelude.{ℕ, ◌+◌, ◌*◌, List, [], ◌∷◌}
 use Rattle.alb_table.specs.declared.grid.Grid.{Grid}
-use Rattle.alb_table.specs.PartView.{PartView, first_of, dim_of}
+use Rattle.alb_table.specs.Table.{PartView, first_of, dim_of}
 
 -- the rectangles of the splits, one after the other
 abbrev pub grids_from : List PartView → ℕ → List (List ℕ × List ℕ) → List Grid

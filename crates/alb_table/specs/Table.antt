@@ -1,16 +1,116 @@
--- What contracts see of a table, and what every table keeps.
-use Rattle.std.specs.Prelude.{◌≡◌, ℕ, suc, ◌+◌, ◌^◌, ◌<◌, ◌≤◌, true, List, [], ◌∷◌, ◌++◌, map, length, sum, take, All}
+-- Tables: their parts, products and entries, what every table keeps, and the limits of a table.
+use Rattle.std.specs.Prelude.{ℕ, ◌+◌, if◌then◌else◌, List, [], ◌∷◌, ◌++◌, map, length, replicate, slice_index_or, Option, unwrap_or, ◌-◌, Some, None, ◌==◌, Bool, ◌&&◌, ◌≡◌, suc, ◌^◌, ◌<◌, ◌≤◌, true, sum, take, All}
 use Rattle.std.specs.List.{flat_map}
-use Rattle.gf_field.specs.Primes.{IsInTable}
-use Rattle.gf_sums.specs.Sums.{total}
-use Rattle.alb_mono.specs.Listing.{Each, IsIn}
-use Rattle.alb_mono.specs.Tree.{leaf, type_le, type_of}
-use Rattle.alb_mono.specs.Types.{types_of, rising}
-use Rattle.alb_rows.specs.Row.{Cells, IsRowOver, ColumnsBelow}
+use Rattle.alb_mono.specs.Tree.{Tree, leaf, node, type_plus, splits, rising, type_le, type_of, types_of}
+use Rattle.alb_poly.specs.Poly.{list_eq}
 use Rattle.alb_table.specs.declared.part.Elem.{Elem}
 use Rattle.alb_table.specs.declared.part.Elem.TheVariants.{Gen, Prod}
-use Rattle.alb_table.specs.PartView.{PartView, elems, first_of, dim_of}
-use Rattle.alb_table.specs.Entry.{products}
+use Rattle.alb_table.specs.declared.part.Origin.{Origin}
+use Rattle.alb_table.specs.declared.part.Part.{Part}
+use Rattle.gf_sums.specs.Sums.{Comb, total}
+use Rattle.alb_rows.specs.Row.{Cells, comb, IsRowOver, ColumnsBelow}
+use Rattle.gf_field.specs.Modular.{IsInTable}
+use Rattle.alb_mono.specs.Listing.{Each, IsIn}
+
+-- ---- what contracts see of a table: its parts, one for each type
+
+-- a type with its basis elements, the entry of each product of this type, and the instances that made its pivots
+pub record PartView : Type 0 where
+  pub at : List ℕ
+  pub basis : List Elem
+  pub entries : List (List (ℕ × ℕ))
+  pub origins : List (ℕ × List ℕ)
+
+-- an instance: the number of its identity, and the basis elements at its positions
+abbrev pub origin_view : Origin → ℕ × List ℕ
+origin_view o = (o.identity, o.args.items)
+
+abbrev pub part_view : Part → PartView
+part_view q = record { at = q.at; basis = q.basis.items; entries = q.entries.items; origins = map origin_view q.origins.items }
+
+-- the part at a place, in the order of types
+abbrev pub part_at : List PartView → ℕ → PartView
+part_at parts k = slice_index_or parts k (record { at = []; basis = []; entries = []; origins = [] })
+
+-- the number of the first basis element of a type, and how many there are
+abbrev pub first_of : List PartView → List ℕ → ℕ
+first_of [] t = 0
+first_of (q ∷ qs) t = if list_eq q.at t then 0 else length q.basis + first_of qs t
+
+abbrev pub dim_of : List PartView → List ℕ → ℕ
+dim_of [] t = 0
+dim_of (q ∷ qs) t = if list_eq q.at t then length q.basis else dim_of qs t
+
+-- the entries and the origins of a type, none where the table does not have it
+abbrev pub entries_at : List PartView → List ℕ → List (List (ℕ × ℕ))
+entries_at [] t = []
+entries_at (q ∷ qs) t = if list_eq q.at t then q.entries else entries_at qs t
+
+abbrev pub origins_at : List PartView → List ℕ → List (ℕ × List ℕ)
+origins_at [] t = []
+origins_at (q ∷ qs) t = if list_eq q.at t then q.origins else origins_at qs t
+
+-- the basis elements by number, and their types
+abbrev pub elems : List PartView → List Elem
+elems parts = flat_map (λ q. q.basis) parts
+
+abbrev pub types : List PartView → List (List ℕ)
+types parts = flat_map (λ q. replicate (length q.basis) q.at) parts
+
+abbrev pub type_at : List PartView → ℕ → List ℕ
+type_at parts b = slice_index_or (types parts) b []
+
+-- the monomial of an element, where `ms` has those of the elements before it
+abbrev pub mono_of : List Tree → Elem → Tree
+mono_of ms (Gen k) = leaf k
+mono_of ms (Prod b c) = node (slice_index_or ms b (leaf 0)) (slice_index_or ms c (leaf 0))
+
+-- the monomials of elements, each made of those before it, which begin with `ms`
+abbrev pub monos_after : List Tree → List Elem → List Tree
+monos_after ms [] = ms
+monos_after ms (e ∷ es) = monos_after (ms ++ mono_of ms e ∷ []) es
+
+-- the monomials of the basis elements by number
+abbrev pub monos : List PartView → List Tree
+monos parts = monos_after [] (elems parts)
+
+abbrev pub mono_at : List PartView → ℕ → Tree
+mono_at parts b = slice_index_or (monos parts) b (leaf 0)
+
+-- ---- the products of a type, and the entry of a product
+
+abbrev pub same_pair : ℕ × ℕ → ℕ × ℕ → Bool
+same_pair x k = x.0 == k.0 && x.1 == k.1
+
+-- all pairs of n numbers from a on and m numbers from b on, ascending
+abbrev pub rectangle : ℕ → ℕ → ℕ → ℕ → List (ℕ × ℕ)
+rectangle a n b m = flat_map (λ i. map (λ j. (i, j)) (rising b m)) (rising a n)
+
+-- the entry beside a key
+abbrev pub find_entry : {E : Type 0} → ℕ × ℕ → List (ℕ × ℕ) → List E → Option E
+find_entry k [] es = None
+find_entry k (x ∷ xs) [] = None
+find_entry k (x ∷ xs) (e ∷ es) = if same_pair x k then Some e else find_entry k xs es
+
+-- all products of two basis elements whose types are one of the pairs
+abbrev pub products_of : List PartView → List (List ℕ × List ℕ) → List (ℕ × ℕ)
+products_of parts ss = flat_map (λ s. rectangle (first_of parts s.0) (dim_of parts s.0) (first_of parts s.1) (dim_of parts s.1)) ss
+
+-- all products of two basis elements whose types add up to `t`, ascending
+abbrev pub products : List PartView → List ℕ → List (ℕ × ℕ)
+products parts t = products_of parts (splits t)
+
+-- THE ENTRY of a product of two basis elements
+abbrev pub entry_of : List PartView → ℕ → ℕ → Option Cells
+entry_of parts b c =
+    let w = type_plus (type_at parts b) (type_at parts c) in
+    find_entry (b, c) (products parts w) (entries_at parts w)
+
+-- the same as a combination of basis numbers: the product of the table's algebra, where what has no entry is zero
+abbrev pub table_product : List PartView → ℕ → ℕ → Comb ℕ
+table_product parts b c = comb (unwrap_or (entry_of parts b c) [])
+
+-- ---- what contracts see of a table, and what every table keeps
 
 -- a table: the number of elements of its field, how often each generator may occur, its degree, and its parts
 pub record Table : Type 0 where
@@ -103,3 +203,33 @@ first_table p target = record { p = p; target = target; degree = 1; parts = firs
 -- one degree and the parts given more
 abbrev pub extended : Table → List PartView → Table
 extended t new = record { p = t.p; target = t.target; degree = t.degree + 1; parts = t.parts ++ new }
+
+-- ---- where the building of tables ends
+
+-- the greatest number of products of one type, of products of a table, and of coefficients of a table
+abbrev pub most_of_type : ℕ
+most_of_type = 4096
+
+abbrev pub most_products : ℕ
+most_products = 1000000
+
+abbrev pub most_coefficients : ℕ
+most_coefficients = 16777216
+
+-- the types of the next degree, ascending
+abbrev pub next_types : Table → List (List ℕ)
+next_types t = types_of t.target (t.degree + 1)
+
+-- how many products a type has
+abbrev pub wide : Table → List ℕ → ℕ
+wide t w = length (products t.parts w)
+
+-- how many products the table of the next degree has
+abbrev pub next_products : Table → ℕ
+next_products t = count_products t.parts + total (wide t) (next_types t)
+
+-- no limit is passed
+pub record IsWithinLimits (t : Table) : Type 0 where
+  pub types : Each (λ q. length q.entries ≤ most_of_type) t.parts
+  pub products : count_products t.parts ≤ most_products
+  pub coefficients : count_coefficients t.parts ≤ most_coefficients

@@ -4,13 +4,11 @@ use Rattle.std.specs.List.{flat_map}
 use Rattle.gf_sums.specs.Sums.{Comb, scale}
 use Rattle.alb_rows.specs.Row.{Cells, comb, IsRowOver, ColumnsBelow}
 use Rattle.alb_mono.specs.Tree.{Tree}
-use Rattle.alb_poly.specs.Algebra.{evaluate_poly, unit}
-use Rattle.alb_table.specs.Entry.{table_product}
-use Rattle.alb_table.specs.PartView.{PartView}
-use Rattle.alb_table.specs.Table.{Table}
+use Rattle.alb_poly.specs.Textbook.{evaluate_poly, unit}
+use Rattle.alb_table.specs.Table.{table_product, PartView, Table}
 
 -- a row over the field with p elements and the first n basis numbers
-pub record IsVector (p n : ℕ) (cells : Cells) : Type 0 where
+pub record IsBasisRow (p n : ℕ) (cells : Cells) : Type 0 where
   pub row : IsRowOver p cells
   pub below : ColumnsBelow n cells
 

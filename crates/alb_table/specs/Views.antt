@@ -5,13 +5,11 @@ use Rattle.std.specs.Arc.{arc_value}
 use Rattle.std.specs.declared.sync.Arc.{Arc}
 use Rattle.std.specs.declared.alloc.Global.{Global}
 use Rattle.alb_mono.specs.Listing.{Each}
-use Rattle.alb_mono.specs.Types.{splits}
+use Rattle.alb_mono.specs.Tree.{splits}
 use Rattle.alb_poly.specs.Poly.{list_eq}
 use Rattle.alb_table.specs.declared.stored.Stored.{Stored}
 use Rattle.alb_table.specs.declared.store.Store.{Store}
-use Rattle.alb_table.specs.PartView.{PartView, part_view, elems}
-use Rattle.alb_table.specs.Entry.{products}
-use Rattle.alb_table.specs.Table.{Table, IsTable}
+use Rattle.alb_table.specs.Table.{PartView, part_view, elems, products, Table, IsTable}
 use Rattle.alb_table.specs.Grid.{cells_of, OffsetsFrom, Rises}
 use Rattle.alb_table.specs.Stored.{grids_from}
 
@@ -55,20 +53,20 @@ pub record IsStore (s : Store) : Type 0 where
   pub stored : AreStored (views s) s.parts.items
 
 -- what one more stored part changes
-pub record Pushes (parts : List PartView) (old new : Store) (q : PartView) : Type 0 where
+pub record PushesPart (parts : List PartView) (old new : Store) (q : PartView) : Type 0 where
   pub parts_are : views new ≡ views old ++ q ∷ []
   pub numbers : new.part_of.items ≡ old.part_of.items ++ replicate (length q.basis) (length old.parts.items)
   pub elements : new.elems.items ≡ old.elems.items ++ q.basis
   pub stored : AreStored parts old.parts.items → AreStored parts new.parts.items
 
 -- the store has the parts of the old one and new ones, whose products are those over the old parts
-pub record Grows (old : Store) (more : List PartView) (new : Store) : Type 0 where
+pub record GrowsStore (old : Store) (more : List PartView) (new : Store) : Type 0 where
   pub parts_are : views new ≡ views old ++ more
   pub numbers : new.part_of.items ≡ numbers_from 0 (views new)
   pub elements : new.elems.items ≡ elems (views new)
   pub stored : AreStored (views old) new.parts.items
 
 -- what the model of a table keeps: its store is right, and it is a table
-pub record IsKept (t : Table) (s : Store) : Type 0 where
+pub record IsKeptTable (t : Table) (s : Store) : Type 0 where
   pub store : IsStore s
   pub table : IsTable t

@@ -2,12 +2,10 @@
 ghost use Rattle.std.specs.Prelude.{◌≡◌, ◌^◌, ◌<◌, ◌++◌, [], length, map, IfOk, OnOk};
 ghost use Rattle.std.specs.Arc.{arc_value};
 ghost use Rattle.alb_mono.specs.Listing.{Each};
-ghost use Rattle.alb_mono.specs.Types.{splits, types_of};
-ghost use Rattle.alb_table.specs.PartView.{part_view, elems};
-ghost use Rattle.alb_table.specs.Entry.{products};
+ghost use Rattle.alb_mono.specs.Tree.{splits, types_of};
+ghost use Rattle.alb_table.specs.Table.{part_view, elems, products, IsTarget, first_parts, generator_view};
 ghost use Rattle.alb_table.specs.Stored.{grids_from};
-ghost use Rattle.alb_table.specs.Table.{IsTarget, first_parts, generator_view};
-ghost use Rattle.alb_table.specs.Views.{view_of, views, IsFull, IsStore, Pushes, Grows};
+ghost use Rattle.alb_table.specs.Views.{view_of, views, IsFull, IsStore, PushesPart, GrowsStore};
 
 use crate::find::range_of;
 use crate::grid::Grid;
@@ -51,7 +49,7 @@ fn push_part(
 ) -> Result<(), NoMemory>
     requires few { length (elems (map view_of old.now)) < 2 ^ 32 }
     requires full { IsFull (map view_of old.now) (part_view part) }
-    ensures { OnOk result (Pushes (map view_of old.now) store.old store.new (part_view part)) }
+    ensures { OnOk result (PushesPart (map view_of old.now) store.old store.new (part_view part)) }
 {
     let grids = grids_of(alloc, old, &part.at)?;
     let k = store.parts.len();
@@ -92,7 +90,7 @@ pub(crate) fn grown(alloc: Global, old: &Store, parts: Vec<Part>) -> Result<Stor
     requires store { IsStore old.now }
     requires few { length (elems (views old.now)) < 2 ^ 32 }
     requires full { Each (IsFull (views old.now)) (map part_view parts.items) }
-    ensures { IfOk result (λ s. Grows old.now (map part_view parts.items) s) }
+    ensures { IfOk result (λ s. GrowsStore old.now (map part_view parts.items) s) }
 {
     let mut store = Store {
         parts: shared(alloc, &old.parts)?,

@@ -3,8 +3,8 @@ ghost use Rattle.std.specs.Prelude.{◌≡◌, ◌+◌, ◌-◌, ◌<◌, ◌≤
 ghost use Rattle.std.specs.List.{flat_map};
 ghost use Rattle.alb_mono.specs.Listing.{Each, Ascends};
 ghost use Rattle.alb_mono.specs.Tree.{cmp_types};
-ghost use Rattle.alb_table.specs.Grid.{covers, first_cover, place_in, cells_of, OffsetsFrom, Rises, find_entry};
-ghost use Rattle.alb_table.specs.PartView.{elems, first_of, dim_of};
+ghost use Rattle.alb_table.specs.Grid.{covers, first_cover, place_in, cells_of, OffsetsFrom, Rises};
+ghost use Rattle.alb_table.specs.Table.{find_entry, elems, first_of, dim_of};
 ghost use Rattle.alb_table.specs.Views.{view_of, part_number};
 
 use crate::grid::Grid;

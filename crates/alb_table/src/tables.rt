@@ -1,14 +1,10 @@
 ghost use Rattle.std.specs.Prelude.{◌≡◌, ◌+◌, ◌<◌, ◌≤◌, ◌^◌, ◌++◌, All, length, map, sum, Some, None, IfOk, IfSome, IfNone, MatchOption, slice_get};
 ghost use Rattle.std.specs.List.{flat_map};
 ghost use Rattle.alb_mono.specs.Listing.{Each};
-ghost use Rattle.alb_mono.specs.Mono.{tree};
-ghost use Rattle.alb_mono.specs.Tree.{type_plus};
-ghost use Rattle.alb_mono.specs.Types.{types_of};
-ghost use Rattle.alb_table.specs.PartView.{elems, type_at, first_of, dim_of, mono_at, origin_view, origins_at, part_at, part_view};
-ghost use Rattle.alb_table.specs.Entry.{entry_of, products};
+ghost use Rattle.alb_mono.specs.Tree.{tree, type_plus, types_of};
+ghost use Rattle.alb_table.specs.Table.{elems, type_at, first_of, dim_of, mono_at, origin_view, origins_at, part_at, part_view, entry_of, products, FactorsBelow, GeneratorBelow, IsTable, IsTarget, IsPartOf, IsCountable, CoversType, count_products, count_coefficients, extended, first_table};
 ghost use Rattle.alb_table.specs.Grid.{cells_of, ArePairsBelow};
-ghost use Rattle.alb_table.specs.Value.{IsVector};
-ghost use Rattle.alb_table.specs.Table.{FactorsBelow, GeneratorBelow, IsTable, IsTarget, IsPartOf, IsCountable, CoversType, count_products, count_coefficients, extended, first_table};
+ghost use Rattle.alb_table.specs.Value.{IsBasisRow};
 
 use crate::build::{empty_store, first_parts, grown};
 use crate::count::{count_coefficients, count_entries};
@@ -154,7 +150,7 @@ impl Tables {
         requires right { c < length (elems self.now.parts) }
         ensures some { IfSome result (λ r. entry_of self.now.parts b c ≡ Some r.now) }
         ensures none { IfNone result (entry_of self.now.parts b c ≡ None) }
-        ensures row { IfSome result (λ r. IsVector self.now.p (length (elems self.now.parts)) r.now) }
+        ensures row { IfSome result (λ r. IsBasisRow self.now.p (length (elems self.now.parts)) r.now) }
         ensures exactly { MatchOption result (CoversType self.now (type_plus (type_at self.now.parts b) (type_at self.now.parts c)) → ⊥) (λ r. CoversType self.now (type_plus (type_at self.now.parts b) (type_at self.now.parts c))) }
     {
         let t = self.type_at(b).plus(self.type_at(c));

@@ -1,15 +1,13 @@
 ghost use Rattle.std.specs.Prelude.{◌≡◌, ℕ, ◌+◌, ◌*◌, ◌<◌, ◌≤◌, ◌↔◌, ◌++◌, [], length, All, IfOk, OnOk, IsTrue};
 ghost use Rattle.gf_sums.specs.Sums.{multiply, scale};
 ghost use Rattle.alb_mono.specs.Listing.{Each};
-ghost use Rattle.alb_mono.specs.Mono.{tree};
-ghost use Rattle.alb_mono.specs.Tree.{are_below};
+ghost use Rattle.alb_mono.specs.Tree.{tree, are_below};
 ghost use Rattle.alb_rows.specs.Row.{comb, AreSameVector};
 ghost use Rattle.alb_poly.specs.Poly.{AreResidues};
-ghost use Rattle.alb_poly.specs.Algebra.{evaluate};
-ghost use Rattle.alb_table.specs.PartView.{elems};
-ghost use Rattle.alb_table.specs.Entry.{table_product};
+ghost use Rattle.alb_poly.specs.Textbook.{evaluate};
+ghost use Rattle.alb_table.specs.Table.{elems, table_product};
 ghost use Rattle.alb_table.specs.Held.{cells_in};
-ghost use Rattle.alb_table.specs.Value.{IsVector, vectors, generator_vector, table_value, times_right};
+ghost use Rattle.alb_table.specs.Value.{IsBasisRow, vectors, generator_vector, table_value, times_right};
 
 use crate::held::Held;
 use crate::tables::Tables;
@@ -22,11 +20,11 @@ use std::alloc::Global;
 impl Tables {
     // Adds x times the product of two basis elements.
     fn add_product(&self, acc: &mut Row, x: Residue, b: u32, c: u32) -> Result<(), NoMemory>
-        requires row { IsVector self.now.p (length (elems self.now.parts)) acc.old }
+        requires row { IsBasisRow self.now.p (length (elems self.now.parts)) acc.old }
         requires residue { x < self.now.p }
         requires left { b < length (elems self.now.parts) }
         requires right { c < length (elems self.now.parts) }
-        ensures row { OnOk result (IsVector self.now.p (length (elems self.now.parts)) acc.new) }
+        ensures row { OnOk result (IsBasisRow self.now.p (length (elems self.now.parts)) acc.new) }
         ensures value { OnOk result (AreSameVector self.now.p (comb acc.new) (comb acc.old ++ scale x (table_product self.now.parts b c))) }
     {
         match self.product(b, c) {
@@ -40,11 +38,11 @@ impl Tables {
 
     // Adds x times the basis element b, times a row.
     fn add_times(&self, acc: &mut Row, x: Residue, b: u32, right: &Row) -> Result<(), NoMemory>
-        requires row { IsVector self.now.p (length (elems self.now.parts)) acc.old }
+        requires row { IsBasisRow self.now.p (length (elems self.now.parts)) acc.old }
         requires residue { x < self.now.p }
         requires number { b < length (elems self.now.parts) }
-        requires right_row { IsVector self.now.p (length (elems self.now.parts)) right.now }
-        ensures row { OnOk result (IsVector self.now.p (length (elems self.now.parts)) acc.new) }
+        requires right_row { IsBasisRow self.now.p (length (elems self.now.parts)) right.now }
+        ensures row { OnOk result (IsBasisRow self.now.p (length (elems self.now.parts)) acc.new) }
         ensures value { OnOk result (AreSameVector self.now.p (comb acc.new) (comb acc.old ++ times_right self.now.parts x b (comb right.now))) }
     {
         let field = self.field();
@@ -57,10 +55,10 @@ impl Tables {
     /// The product of two vectors of the table's algebra, which are rows over the field and the basis numbers. What has no
     /// entry is zero.
     pub fn multiply(&self, alloc: Global, left: &Row, right: &Row) -> Result<Row, NoMemory>
-        requires left_row { IsVector self.now.p (length (elems self.now.parts)) left.now }
-        requires right_row { IsVector self.now.p (length (elems self.now.parts)) right.now }
+        requires left_row { IsBasisRow self.now.p (length (elems self.now.parts)) left.now }
+        requires right_row { IsBasisRow self.now.p (length (elems self.now.parts)) right.now }
         ensures value { IfOk result (λ r. AreSameVector self.now.p (comb r) (multiply (table_product self.now.parts) (comb left.now) (comb right.now))) }
-        ensures row { IfOk result (λ r. IsVector self.now.p (length (elems self.now.parts)) r) }
+        ensures row { IfOk result (λ r. IsBasisRow self.now.p (length (elems self.now.parts)) r) }
     {
         let mut acc = Row::new(alloc);
         for cell in left.cells() {
@@ -72,10 +70,10 @@ impl Tables {
     /// The value of a monomial over positions in the table's algebra, where each position has a vector. The value of a
     /// position is lent.
     pub fn factor<'a>(&self, alloc: Global, m: &Mono, rows: &'a [Row]) -> Result<Held<'a>, NoMemory>
-        requires vectors { Each (IsVector self.now.p (length (elems self.now.parts))) rows.now }
+        requires vectors { Each (IsBasisRow self.now.p (length (elems self.now.parts))) rows.now }
         requires positions { IsTrue (are_below (length rows.now) (tree m.now)) }
         ensures value { IfOk result (λ r. AreSameVector self.now.p (comb (cells_in r)) (evaluate (table_product self.now.parts) (vectors rows.now) (tree m.now))) }
-        ensures row { IfOk result (λ r. IsVector self.now.p (length (elems self.now.parts)) (cells_in r)) }
+        ensures row { IfOk result (λ r. IsBasisRow self.now.p (length (elems self.now.parts)) (cells_in r)) }
     {
         match m {
             Mono::Gen(k) => Ok(Held::Lent(&rows[*k as usize])),
@@ -90,10 +88,10 @@ impl Tables {
 
     /// The same as a row of its own.
     pub fn value_at(&self, alloc: Global, m: &Mono, rows: &[Row]) -> Result<Row, NoMemory>
-        requires vectors { Each (IsVector self.now.p (length (elems self.now.parts))) rows.now }
+        requires vectors { Each (IsBasisRow self.now.p (length (elems self.now.parts))) rows.now }
         requires positions { IsTrue (are_below (length rows.now) (tree m.now)) }
         ensures value { IfOk result (λ r. AreSameVector self.now.p (comb r) (evaluate (table_product self.now.parts) (vectors rows.now) (tree m.now))) }
-        ensures row { IfOk result (λ r. IsVector self.now.p (length (elems self.now.parts)) r) }
+        ensures row { IfOk result (λ r. IsBasisRow self.now.p (length (elems self.now.parts)) r) }
     {
         match self.factor(alloc, m, rows)? {
             Held::Lent(row) => row.try_copy(alloc),
@@ -104,7 +102,7 @@ impl Tables {
     // The vectors of the letters a to z: of a generator its basis element, of others zero.
     fn generator_rows(&self, alloc: Global) -> Result<Vec<Row>, NoMemory>
         ensures all { IfOk result (λ v. length v.items ≡ 26) }
-        ensures vectors { IfOk result (λ v. Each (IsVector self.now.p (length (elems self.now.parts))) v.items) }
+        ensures vectors { IfOk result (λ v. Each (IsBasisRow self.now.p (length (elems self.now.parts))) v.items) }
         ensures values { IfOk result (λ v. (k : ℕ) → vectors v.items k ≡ generator_vector (length self.now.target) k) }
     {
         let gens = self.target().counts().len();
@@ -120,7 +118,7 @@ impl Tables {
     pub fn value(&self, alloc: Global, g: &Poly) -> Result<Row, NoMemory>
         requires { AreResidues self.now.p g.now }
         ensures value { IfOk result (λ r. AreSameVector self.now.p (comb r) (table_value self.now g.now)) }
-        ensures row { IfOk result (λ r. IsVector self.now.p (length (elems self.now.parts)) r) }
+        ensures row { IfOk result (λ r. IsBasisRow self.now.p (length (elems self.now.parts)) r) }
         ensures zero { IfOk result (λ r. (r ≡ []) ↔ AreSameVector self.now.p (table_value self.now g.now) []) }
     {
         let rows = self.generator_rows(alloc)?;
@@ -136,7 +134,7 @@ impl Tables {
 // The vector of a letter.
 fn generator_row(alloc: Global, gens: usize, k: u32) -> Result<Row, NoMemory>
     ensures value { IfOk result (λ r. comb r ≡ generator_vector gens k) }
-    ensures row { (p n : ℕ) → 1 < p → gens ≤ n → IfOk result (λ r. IsVector p n r) }
+    ensures row { (p n : ℕ) → 1 < p → gens ≤ n → IfOk result (λ r. IsBasisRow p n r) }
 {
     if (k as usize) < gens {
         Row::unit(alloc, k, 1)

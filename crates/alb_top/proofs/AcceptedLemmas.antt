@@ -2,28 +2,24 @@
 use Rattle.std.proofs.Common.{◌≡◌, ℕ, true, false, List, [], ◌∷◌, ◌++◌, length, Option, Some, None, Result, Ok, refl, sym, ap, ◌∙◌, subst, arith}
 use Rattle.std.specs.Prelude.{codes, nat_le, nat_lt, ◌&&◌}
 use Rattle.std.proofs.lemmas.Bool.Decides.{nat_tests}
-use Rattle.alb_io.specs.Lines.{lines_of}
+use Rattle.alb_io.specs.Reader.{lines_of}
 use Rattle.alb_poly.specs.Poly.{Poly}
-use Rattle.alb_problem.specs.Builder.{Builder}
-use Rattle.alb_problem.specs.Sound.{forms_of}
+use Rattle.alb_problem.specs.Builder.{Builder, forms_of}
 use Rattle.alb_script.specs.Asked as asking
 use Rattle.alb_script.specs.Asked.{Asked, Claim}
 use Rattle.alb_script.specs.declared.error.CommandError.{CommandError}
 use Rattle.alb_script.specs.declared.form.Form.TheVariants as form
 use Rattle.alb_evidence.specs.Block as block
-use Rattle.alb_evidence.specs.Block.{evidence_of}
-use Rattle.alb_evidence.specs.Words.{words, is_end, are_end}
+use Rattle.alb_evidence.specs.Block.{evidence_of, words, is_end, are_end}
 use Rattle.alb_judge.specs.Verdict.{Verdict, IsVerdict, verdict_text}
 use Rattle.alb_judge.proofs.VerdictLemmas.{verdict-justified}
 use Rattle.alb_question.specs.Laws.{IsProblem, IsBlockFor, verdict_of}
 use Rattle.alb_question.specs.Question as questions
-use Rattle.alb_question.specs.Question.{Finding, IsFinding, answer_text, proof_text, finding_text}
-use Rattle.alb_question.specs.Shot.{Shot, Pair, rules_of, IsBuilt}
+use Rattle.alb_question.specs.Question.{Finding, IsFinding, answer_text, proof_text, finding_text, Shot, Pair, rules_of, IsBuilt}
 use Rattle.alb_question.proofs.Accepted.{proofs-accepted, proof-printed}
-use Rattle.alb_top.specs.Response.{Response, Judged, Found, found_text}
-use Rattle.alb_top.specs.Runs.{Run}
-use Rattle.alb_top.specs.Script.{State, Claimed, Step, FindsBy, Obeys, ObeysLine, Commands, AnswersIn, AnswersLine, OfBlock, Judges, asked_of, letters_of, total_of, text_of, shut, respond}
-use Rattle.alb_top.specs.Sound.{IsSound, HasBuilt}
+use Rattle.alb_top.specs.Script.{Response, Judged, Found, found_text, State, Claimed, Step, FindsBy, Obeys, ObeysLine, Commands, AnswersIn, AnswersLine, OfBlock, JudgesClaim, asked_of, letters_of, total_of, text_of, shut, respond}
+use Rattle.alb_top.specs.Outcome.{Run}
+use Rattle.alb_top.specs.Sound.{IsSoundState, HasBuilt}
 use Rattle.alb_top.specs.View.{IsTimely}
 use Rattle.alb_top.specs.Turns.{claimed}
 use Rattle.alb_top.specs.Laws.{check, batch, IsReached, Asks, AnswersOnly, PrintsEvidence, EvidenceIsAccepted}
@@ -41,17 +37,17 @@ end-words = refl
 end-is_end : is_end (codes "end") ≡ true
 end-is_end = ap (λ ws. nat_le 3 65536 && are_end ws) end-words
 
-module _ (s : State) (is_check : IsCheck s) (sound : IsSound s) (built : s.built ≡ true) (claim : List ℕ) (g : Poly) (asks : Asks s claim (Claim g)) where
+module _ (s : State) (is_check : IsCheck s) (sound : IsSoundState s) (built : s.built ≡ true) (claim : List ℕ) (g : Poly) (asks : Asks s claim (Claim g)) where
   -- the script after the lines of a block
   abbrev inside : List (List ℕ) → State
   inside lines = record s { block = Claimed g lines }
 
-  abbrev given : List (List ℕ) → Result block.Evidence block.Fault
+  abbrev given : List (List ℕ) → Result block.Evidence block.BlockFault
   given lines = evidence_of s.problem.field (letters_of s) lines true
 
   -- the verdict on the lines of a block stands in the transcript
   judged : (lines : List (List ℕ)) (v : Verdict) → IsVerdict s.problem.field s.problem.counts (forms_of s.problem) g (given lines) v
-      → Judges (inside lines) g (given lines) (Judged v) (respond (Judged v) (shut s)).1
+      → JudgesClaim (inside lines) g (given lines) (Judged v) (respond (Judged v) (shut s)).1
   judged lines v is = record {
     verdict = v;
     judged = is;
@@ -91,10 +87,10 @@ module _ (s : State) (is_check : IsCheck s) (sound : IsSound s) (built : s.built
 reached-check : (s : State) → IsReached check s → IsCheck s
 reached-check s r = (run-only check s s r.lines r.shown r.shown r.text r.text (record { mode = refl; shot = refl }) r.run r.run).2
 
-reached-sound : (s : State) → IsReached check s → IsSound s
+reached-sound : (s : State) → IsReached check s → IsSoundState s
 reached-sound s r = Run-sound check s r.lines r.shown r.text (sound-start mode.Check form.Check refl) r.run
 
-batch-sound : (s : State) → IsReached batch s → IsSound s
+batch-sound : (s : State) → IsReached batch s → IsSoundState s
 batch-sound s r = Run-sound batch s r.lines r.shown r.text (sound-start mode.Batch form.Batch refl) r.run
 
 -- evidence about the problem of another script is accepted

@@ -1,16 +1,14 @@
 -- What a line may ask for: its words by the form and the place, and identities over the letters a to z.
 use Rattle.std.proofs.Common.{◌≡◌, ℕ, ◌+◌, Bool, true, false, List, length, Option, Some, None, Result, Ok, Err, refl, sym, ◌∙◌, subst}
 use Rattle.std.specs.Prelude.{IsTrue, All, drop, take, slice_index, if◌then◌else◌, ◌==◌, ◌&&◌, not}
-use Rattle.alb_mono.specs.Letters.{alphabet}
-use Rattle.alb_mono.specs.Tree.{are_below}
+use Rattle.alb_mono.specs.Tree.{alphabet, are_below}
 use Rattle.alb_lex.specs.declared.token.Token.{Token}
 use Rattle.alb_syntax.specs.Reading.{denoted}
 use Rattle.alb_syntax.specs.declared.error.SyntaxError.{SyntaxError}
 use Rattle.alb_syntax.proofs.Found.{denoted-found}
 use Rattle.alb_syntax.proofs.Known.{denoted-known}
 use Rattle.alb_poly.specs.Poly.{Poly}
-use Rattle.alb_script.specs.Words.{word_named, belongs, is_early, is_late}
-use Rattle.alb_script.specs.Asked.{Asked, Blank, Field, Generators, Identity, Build, Polynomial, Prove, Dimensions, Table, Claim, Await, Quit, ◌>>=◌, dense, or_syntax, tokens_at, poly_at, when_none, number_at, degree_at, asked_by, of_form, or_unknown, timely, word_of, word_length, word_at, word_from, word_start, command_word, asked_at, asked}
+use Rattle.alb_script.specs.Asked.{word_named, belongs, is_early, is_late, Asked, Blank, Field, Generators, Identity, Build, Polynomial, Prove, Dimensions, Table, Claim, Await, Quit, ◌>>=◌, dense, or_syntax, tokens_at, poly_at, when_none, number_argument, degree_at, asked_by, of_form, or_unknown, timely, word_of, word_length, word_at, word_from, word_start, command_word, asked_at, asked}
 use Rattle.alb_script.specs.declared.error.CommandError.{CommandError}
 use Rattle.alb_script.specs.declared.error.CommandError.TheVariants as errors
 use Rattle.alb_script.specs.declared.form.Form.{Form}
@@ -71,7 +69,7 @@ is_alone a b at (Some k) h = absurd (cc)
 by-timely : (form : Form) (built : Bool) (total p : ℕ) (letters : List ℕ) (w : Word) (at : ℕ) (line : List ℕ) (a : Asked) → Stands form built w → asked_by total p letters w at line ≡ Ok a → IsTimely form built a
 unfolding asked_by
 by-timely form built total p letters word.Field at line a s h =
-    let g = got (number_at at line) (λ n. Ok (Field n)) a h in
+    let g = got (number_argument at line) (λ n. Ok (Field n)) a h in
     let e : Field g.0 ≡ a = cc in
     subst (IsTimely form built) e (record { of_form = tt; stands = s.early refl })
 by-timely form built total p letters word.Generators at line a s h =
@@ -156,7 +154,7 @@ poly_known p at line f h =
 by-known : (total p : ℕ) (letters : List ℕ) (w : Word) (at : ℕ) (line : List ℕ) (a : Asked) → asked_by total p letters w at line ≡ Ok a → IsKnown a
 unfolding asked_by
 by-known total p letters word.Field at line a h =
-    let g = got (number_at at line) (λ n. Ok (Field n)) a h in
+    let g = got (number_argument at line) (λ n. Ok (Field n)) a h in
     let e : Field g.0 ≡ a = cc in
     subst IsKnown e tt
 by-known total p letters word.Generators at line a h =

@@ -3,7 +3,7 @@ use Rattle.std.proofs.Common.{◌≡◌, ℕ, Bool, true, false, List, length, O
 use Rattle.std.specs.Prelude.{IfOk}
 use Rattle.alb_lex.specs.declared.error.LexError.TheVariants as lex
 use Rattle.alb_syntax.specs.declared.error.SyntaxError.TheVariants as syntax
-use Rattle.alb_script.specs.Asked.{view, command_word, HasRead, Fails, IsPlain}
+use Rattle.alb_script.specs.Asked.{view, command_word, IsCommandOver, Fails, IsPlain}
 use Rattle.alb_script.specs.declared.command.Command.{Command}
 use Rattle.alb_script.specs.declared.command.Command.TheVariants as command
 use Rattle.alb_script.specs.declared.error.CommandError.{CommandError}
@@ -27,7 +27,7 @@ command-asks (command.Claim f) s line h = h
 command-asks (command.Await n) s line h = h
 command-asks command.Quit s line h = h
 
-may : (c : Command) (s : State) → IsTimely s.form s.built (view c) → HasRead s.problem.field (length (letters_of s)) c → MayBeAsked (asks_of c) s
+may : (c : Command) (s : State) → IsTimely s.form s.built (view c) → IsCommandOver s.problem.field (length (letters_of s)) c → MayBeAsked (asks_of c) s
 may command.Blank s t r = (tt, t, r)
 may (command.Field p) s t r = (tt, t, r)
 may (command.Generators ts end) s t r = (tt, t, r)
@@ -41,7 +41,7 @@ may (command.Claim f) s t r = (claim-form s.form t.of_form, t.stands, r)
 may (command.Await n) s t r = (tt, t, r)
 may command.Quit s t r = (tt, t, r)
 
-pub command-may : (c : Command) (s : State) (line : List ℕ) → asked_of s line ≡ Ok (view c) → HasRead s.problem.field (length (letters_of s)) c → MayBeAsked (asks_of c) s
+pub command-may : (c : Command) (s : State) (line : List ℕ) → asked_of s line ≡ Ok (view c) → IsCommandOver s.problem.field (length (letters_of s)) c → MayBeAsked (asks_of c) s
 command-may c s line h r = may c s (asked-timely s.form s.built (total_of s) s.problem.field (letters_of s) line (view c) h) r
 
 -- a refusal, by whether the line begins with `claim`

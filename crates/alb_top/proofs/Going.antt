@@ -3,27 +3,23 @@ use Rattle.std.proofs.Common.{◌≡◌, ◌≢◌, ◌⊎◌, ℕ, ◌+◌, ◌
 use Rattle.std.specs.Io.KnownBytes.{Appends}
 use Rattle.std.proofs.KnownBytes.{Consumes-nil, Appends-nil, Appends-trans}
 use Rattle.std.proofs.lemmas.List.{append-nil, length-append}
-use Rattle.alb_io.specs.Lines.{lines_of}
+use Rattle.alb_io.specs.Reader.{lines_of, Reader, Reading, IsAll}
 use Rattle.alb_io.specs.Puts.{AppendsFront}
-use Rattle.alb_io.specs.Reader.{Reader}
-use Rattle.alb_io.specs.Reading.{Reading, IsAll}
 use Rattle.alb_io.specs.declared.status.Status.{Status}
 use Rattle.alb_io.specs.declared.status.Status.TheVariants as status
 use Rattle.alb_io.specs.declared.step.LineStep.TheVariants as step
 use Rattle.alb_io.proofs.Readings.{Reading-start, Reading-first, Reading-end, Reading-cut, Reading-lines, Reading-takes, HasRead-lines}
 use Rattle.alb_evidence.specs.Reads.{ReadsLines}
-use Rattle.alb_question.specs.Shot.{Pair}
-use Rattle.alb_top.specs.Runs.{Run}
-use Rattle.alb_top.specs.Response.{Response}
-use Rattle.alb_top.specs.Script.{State, Step, EndsBlock, AnswersEnd, text_of}
-use Rattle.alb_top.specs.Sound.{IsSound}
-use Rattle.alb_top.specs.Outcome.{IsTranscript, IsFront, IsRead, Transcribes, AnswersUpTo, Outcome, input_of}
+use Rattle.alb_question.specs.Question.{Pair}
+use Rattle.alb_top.specs.Outcome.{Run, IsTranscript, IsFront, IsInputRead, Transcribes, AnswersUpTo, Outcome, input_of}
+use Rattle.alb_top.specs.Script.{Response, State, Step, EndsBlock, AnswersEnd, text_of}
+use Rattle.alb_top.specs.Sound.{IsSoundState}
 use Rattle.alb_top.specs.Does.{IsIdle}
 use Rattle.alb_top.specs.Turns.{Going, AnswersLines, EndsLines, Stops, Gets, status_of}
 use Rattle.alb_top.proofs.SoundLemmas.{finish-some}
 use Rattle.alb_top.proofs.RunLemmas.{Run-sound, Run-join, Run-one, Run-some, Run-closed, Finish-closed, silent}
 
-module _ (opening : State) (ready : IsSound opening) where
+module _ (opening : State) (ready : IsSoundState opening) where
   pub Going-start : (reader : Reader) (first before : Option (List ℕ)) → reader.held ≡ [] → reader.at_end ≡ false → reader.room ≡ 2 ^ 40 → Going opening reader opening first first before before
   Going-start reader first before none running room = record {
     taken = [];
@@ -36,7 +32,7 @@ module _ (opening : State) (ready : IsSound opening) where
     room = omega (arith, room);
   }
 
-  pub Going-sound : (reader : Reader) (script : State) (first now before after : Option (List ℕ)) → Going opening reader script first now before after → IsSound script
+  pub Going-sound : (reader : Reader) (script : State) (first now before after : Option (List ℕ)) → Going opening reader script first now before after → IsSoundState script
   Going-sound reader script first now before after p = Run-sound opening script p.lines p.shown p.text ready p.run
 
 -- ---- reading
@@ -111,7 +107,7 @@ up_to-join old mid new xs ys shown t u run a = record {
   step = a.step;
 }
 
-module _ (opening : State) (ready : IsSound opening) where
+module _ (opening : State) (ready : IsSoundState opening) where
   -- lines were read and answered
   pub Going-lines : (old new : Reader) (script next : State) (first now now' before after after' : Option (List ℕ)) (response : Response)
       → Going opening old script first now before after → AnswersLines old new script next now now' response → Appends after after' (text_of next response)
@@ -174,7 +170,7 @@ module _ (opening : State) (ready : IsSound opening) where
         };
       }
 
-  by_status : (clean : Bool) (input taken text : List ℕ) → IsTranscript opening input text clean → IsRead opening input taken text → Transcribes opening (status_of clean) input taken text
+  by_status : (clean : Bool) (input taken text : List ℕ) → IsTranscript opening input text clean → IsInputRead opening input taken text → Transcribes opening (status_of clean) input taken text
   by_status true input taken text p q = (p, q)
   by_status false input taken text p q = (p, q)
 

@@ -1,19 +1,15 @@
 -- A problem stays sound by each statement.
 use Rattle.std.proofs.Common.{◌≡◌, ◌+◌, List, [], ◌∷◌, ◌++◌, length, Option, Some, None, refl}
-use Rattle.alb_mono.specs.Letters.{AreLetters}
-use Rattle.alb_problem.specs.Builder.{Builder}
-use Rattle.alb_problem.specs.Generators.{letters, counts}
-use Rattle.alb_problem.specs.Refusals as refusals
-use Rattle.alb_problem.specs.Refusals.{field_refusal, generators_refusal, identity_refusal}
-use Rattle.alb_problem.specs.Sound.{IsSoundProblem}
+use Rattle.alb_mono.specs.Tree.{AreLetters}
+use Rattle.alb_problem.specs.Builder.{Builder, letters, counts, field_refusal, generators_refusal, identity_refusal, IsSoundProblem}
+use Rattle.alb_problem.specs.Builder as refusals
 use Rattle.alb_problem.proofs.SoundLemmas.{field-sound, named-sound, identity-sound}
 use Rattle.alb_script.specs.Asked as asking
 use Rattle.alb_script.specs.Asked.{Asked}
-use Rattle.alb_top.specs.Response.{Response, Accepted, Numbered}
-use Rattle.alb_top.specs.Script.{unless, stated}
+use Rattle.alb_top.specs.Script.{Response, Accepted, Numbered, unless, stated}
 use Rattle.alb_top.proofs.AskedLemmas.{IsKnown}
 
-unless-sound : (o : Option refusals.Refusal) (response : Response) (new old : Builder) → IsSoundProblem old → (o ≡ None → IsSoundProblem new) → IsSoundProblem (unless o response new old).1
+unless-sound : (o : Option refusals.ProblemRefusal) (response : Response) (new old : Builder) → IsSoundProblem old → (o ≡ None → IsSoundProblem new) → IsSoundProblem (unless o response new old).1
 unless-sound None response new old h k = k refl
 unless-sound (Some r) response new old h k = h
 

@@ -2,24 +2,20 @@
 use Rattle.std.proofs.Common.{◌≡◌, ℕ, Bool, true, false, List, [], ◌∷◌, length, Option, Some, None, Err, refl, sym, ap, ◌∙◌, subst}
 use Rattle.std.specs.Prelude.{if◌then◌else◌, IsTrue, All, IfOk, nat_lt, nat_le, ◌==◌, sum}
 use Rattle.std.proofs.lemmas.List.Elements.{All-head, All-tail}
-use Rattle.gf_field.specs.Primes.{is_in_table}
-use Rattle.alb_mono.specs.Mono.{tree}
-use Rattle.alb_mono.specs.Tree.{Tree, type_of, are_below}
+use Rattle.gf_field.specs.Modular.{is_in_table}
+use Rattle.alb_mono.specs.Tree.{tree, Tree, type_of, are_below}
 use Rattle.alb_lex.specs.declared.token.Token.{Token}
 use Rattle.alb_poly.specs.Poly.{Poly, list_eq}
 use Rattle.alb_linear.specs.Identity as identity
 use Rattle.alb_linear.specs.Identity.{other_term, type_fault, degree_fault, identity_fault, linear_count}
 use Rattle.alb_linear.specs.declared.error.IdentityError.TheVariants as linear
-use Rattle.alb_problem.specs.Builder.{Builder}
-use Rattle.alb_problem.specs.Generators.{generators_fault}
-use Rattle.alb_problem.specs.Refusals as refusals
-use Rattle.alb_problem.specs.Refusals.{Tells, AnswersOrNoMemory, field_refusal, bad_generators, generators_refusal, fault_refusal, identity_refusal, finish_refusal}
+use Rattle.alb_problem.specs.Builder.{Builder, generators_fault, TellsRefusal, AnswersOrNoMemory, field_refusal, bad_generators, generators_refusal, fault_refusal, identity_refusal, finish_refusal}
+use Rattle.alb_problem.specs.Builder as refusals
 use Rattle.alb_problem.specs.declared.error.ProblemError.{ProblemError}
 use Rattle.alb_problem.specs.declared.error.ProblemError.TheVariants as error
 use Rattle.alb_script.specs.Refusals.{told_by_problem, is_problem_memory, IsProblemOverAlphabet}
 use Rattle.alb_script.specs.declared.refusal.Refusal.TheVariants as refusal
-use Rattle.alb_top.specs.Response.{Response, Refused, OfProblem}
-use Rattle.alb_top.specs.Script.{unless}
+use Rattle.alb_top.specs.Script.{Response, Refused, OfProblem, unless}
 use Rattle.alb_top.specs.View.{response_of, by_problem, CanBeWritten, IsWritten, of_problem}
 use Rattle.alb_top.specs.declared.response.Response as Rust
 use Rattle.alb_top.specs.declared.response.Response.TheVariants as response
@@ -27,13 +23,13 @@ use Rattle.alb_top.specs.declared.response.Response.TheVariants as response
 -- ---- what an error tells
 
 -- the refusal that an error tells
-pub record IsTold (e : ProblemError) (found : Option refusals.Refusal) : Type 0 where
-  pub refusal : refusals.Refusal
+pub record IsTold (e : ProblemError) (found : Option refusals.ProblemRefusal) : Type 0 where
+  pub refusal : refusals.ProblemRefusal
   pub found_is : found ≡ Some refusal
   pub refuses : by_problem (told_by_problem e) ≡ OfProblem refusal
   pub memory : is_problem_memory e ≡ false
 
-pub told : (e : ProblemError) (found : Option refusals.Refusal) → Tells e found → IsTold e found
+pub told : (e : ProblemError) (found : Option refusals.ProblemRefusal) → TellsRefusal e found → IsTold e found
 told error.NotInTable found h = record { refusal = refusals.NotInTable; found_is = h; refuses = refl; memory = refl }
 told error.FieldAfterIdentity found h = record { refusal = refusals.FieldAfterIdentity; found_is = h; refuses = refl; memory = refl }
 told error.GeneratorsTwice found h = record { refusal = refusals.GeneratorsTwice; found_is = h; refuses = refl; memory = refl }
@@ -50,7 +46,7 @@ told error.FieldTooSmall found h = record { refusal = refusals.FieldTooSmall; fo
 told error.NoMemory found h = absurd h
 
 -- the response to what is refused
-pub unless-told : (e : ProblemError) (found : Option refusals.Refusal) (taken : Response) (new old : Builder) → Tells e found
+pub unless-told : (e : ProblemError) (found : Option refusals.ProblemRefusal) (taken : Response) (new old : Builder) → TellsRefusal e found
     → (Refused (by_problem (told_by_problem e)), old) ≡ unless found taken new old
 unless-told e found taken new old h =
     let t = told e found h in
@@ -59,11 +55,11 @@ unless-told e found taken new old h =
 -- ---- terms are over the letters a to z
 
 -- an error names a term only where the refusal does
-abbrev NamesKnown : Option refusals.Refusal → Type 0
+abbrev NamesKnown : Option refusals.ProblemRefusal → Type 0
 NamesKnown (Some (refusals.NoIdentity (identity.NotHomogeneous m))) = IsTrue (are_below 26 m)
 NamesKnown other = Unit {0}
 
-over_alphabet : (e : ProblemError) (found : Option refusals.Refusal) → NamesKnown found → Tells e found → IsProblemOverAlphabet e
+over_alphabet : (e : ProblemError) (found : Option refusals.ProblemRefusal) → NamesKnown found → TellsRefusal e found → IsProblemOverAlphabet e
 over_alphabet error.NotInTable found k h = tt
 over_alphabet error.FieldAfterIdentity found k h = tt
 over_alphabet error.GeneratorsTwice found k h = tt
@@ -80,7 +76,7 @@ over_alphabet error.FieldTooSmall found k h = tt
 over_alphabet error.NoMemory found k h = absurd h
 
 -- such a refusal can be written
-pub written : (e : ProblemError) (found : Option refusals.Refusal) → NamesKnown found → Tells e found → CanBeWritten (refusal.Problem e)
+pub written : (e : ProblemError) (found : Option refusals.ProblemRefusal) → NamesKnown found → TellsRefusal e found → CanBeWritten (refusal.Problem e)
 written e found k h = record { memory = (told e found h).memory; known = over_alphabet e found k h }
 
 field_known : (a b : Bool) → NamesKnown (if a then Some refusals.FieldAfterIdentity else if b then None else Some refusals.NotInTable)
@@ -108,7 +104,7 @@ pub finish-known : (b : Builder) → NamesKnown (finish_refusal b)
 finish-known b = finish_known (length b.letters == 0) (nat_le b.field (sum b.counts))
 
 -- the term that a fault names is one of the polynomial
-abbrev FaultKnown : Option identity.Fault → Type 0
+abbrev FaultKnown : Option identity.IdentityFault → Type 0
 FaultKnown (Some (identity.NotHomogeneous m)) = IsTrue (are_below 26 m)
 FaultKnown other = Unit {0}
 
@@ -141,14 +137,14 @@ linear_known : (b : Bool) (n : ℕ) → NamesKnown (if b then Some (refusals.Too
 linear_known true n = tt
 linear_known false n = tt
 
-refusal_known : (o : Option identity.Fault) (n : ℕ) → FaultKnown o → NamesKnown (fault_refusal o n)
+refusal_known : (o : Option identity.IdentityFault) (n : ℕ) → FaultKnown o → NamesKnown (fault_refusal o n)
 refusal_known None n h = linear_known (nat_lt 100000 n) n
 refusal_known (Some identity.Zero) n h = tt
 refusal_known (Some (identity.NotHomogeneous m)) n h = h
 refusal_known (Some identity.DegreeOne) n h = tt
 refusal_known (Some identity.DegreeOver8) n h = tt
 
-many_known : (b : Bool) (o : Option refusals.Refusal) → NamesKnown o → NamesKnown (if b then Some refusals.TooManyIdentities else o)
+many_known : (b : Bool) (o : Option refusals.ProblemRefusal) → NamesKnown o → NamesKnown (if b then Some refusals.TooManyIdentities else o)
 many_known true o h = tt
 many_known false o h = h
 
@@ -159,14 +155,14 @@ identity-known b f h =
 -- ---- identities
 
 -- the response to what is refused, unless memory ran out
-pub record IsRefusal (b : Builder) (found : Option refusals.Refusal) (taken : Response) (new : Builder) (r : Rust.Response) : Type 0 where
+pub record IsRefusal (b : Builder) (found : Option refusals.ProblemRefusal) (taken : Response) (new : Builder) (r : Rust.Response) : Type 0 where
   pub told : (response_of r, b) ≡ unless found taken new b
   pub written : IsWritten r
 
-refused_for : (e : ProblemError) (b new : Builder) (found : Option refusals.Refusal) (taken : Response) → NamesKnown found → Tells e found → IsRefusal b found taken new (response.Refused (refusal.Problem e))
+refused_for : (e : ProblemError) (b new : Builder) (found : Option refusals.ProblemRefusal) (taken : Response) → NamesKnown found → TellsRefusal e found → IsRefusal b found taken new (response.Refused (refusal.Problem e))
 refused_for e b new found taken k h = record { told = unless-told e found taken new b h; written = written e found k h }
 
-pub refused-unless : (e : ProblemError) (b new : Builder) (found : Option refusals.Refusal) (taken : Response) → NamesKnown found → AnswersOrNoMemory {X = ℕ} (Err e) found
+pub refused-unless : (e : ProblemError) (b new : Builder) (found : Option refusals.ProblemRefusal) (taken : Response) → NamesKnown found → AnswersOrNoMemory {X = ℕ} (Err e) found
     → IfOk (of_problem e) (IsRefusal b found taken new)
 refused-unless error.NotInTable b new found taken k h = refused_for error.NotInTable b new found taken k h
 refused-unless error.FieldAfterIdentity b new found taken k h = refused_for error.FieldAfterIdentity b new found taken k h

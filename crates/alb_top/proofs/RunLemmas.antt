@@ -1,11 +1,10 @@
 -- Runs over lines: one line more, two runs joined, and that there is one for all lines.
 use Rattle.std.proofs.Common.{◌≡◌, ℕ, true, List, [], ◌∷◌, ◌++◌, Option, None, refl, sym, ap, ◌∙◌, subst, append_assoc}
 use Rattle.std.proofs.lemmas.List.{append-nil}
-use Rattle.alb_question.specs.Shot.{Pair}
-use Rattle.alb_top.specs.Response.{Nothing}
-use Rattle.alb_top.specs.Runs.{Run}
-use Rattle.alb_top.specs.Script.{State, Step, Finish, AnswersLine, AnswersEnd}
-use Rattle.alb_top.specs.Sound.{IsSound}
+use Rattle.alb_question.specs.Question.{Pair}
+use Rattle.alb_top.specs.Script.{Nothing, State, Step, Finish, AnswersLine, AnswersEnd}
+use Rattle.alb_top.specs.Outcome.{Run}
+use Rattle.alb_top.specs.Sound.{IsSoundState}
 use Rattle.alb_top.proofs.SoundLemmas.{step-some, step-sound}
 
 module _ {S L : Type 0} (by : S → List ℕ → L → List ℕ → S → Type 0) where
@@ -19,7 +18,7 @@ module _ {S L : Type 0} (by : S → List ℕ → L → List ℕ → S → Type 0
   Run-one old new line a t p = (a, [], t, [], new, refl, sym (append-nil t), p, (refl, refl, refl))
 
 -- each script has a transcript, and a sound one leads to a sound one
-pub Run-some : (old : State) (lines : List (List ℕ)) → IsSound old → (shown : List (Option Pair)) × (t : List ℕ) × (new : State) × Run Step old lines shown t new
+pub Run-some : (old : State) (lines : List (List ℕ)) → IsSoundState old → (shown : List (Option Pair)) × (t : List ℕ) × (new : State) × Run Step old lines shown t new
 Run-some old [] sound = ([], [], old, (refl, refl, refl))
 Run-some old (line ∷ lines) sound =
     let answer = step-some old line sound in
@@ -27,8 +26,8 @@ Run-some old (line ∷ lines) sound =
     (answer.0 ∷ rest.0, answer.1 ++ rest.1, rest.2, (answer.0, rest.0, answer.1, rest.1, answer.2, refl, refl, answer.3, rest.3))
 
 -- a run leads from a sound state to a sound state
-pub Run-sound : (old new : State) (lines : List (List ℕ)) (shown : List (Option Pair)) (t : List ℕ) → IsSound old → Run Step old lines shown t new → IsSound new
-Run-sound old new [] shown t sound run = subst (λ (s : State). IsSound s) (sym run.2) sound
+pub Run-sound : (old new : State) (lines : List (List ℕ)) (shown : List (Option Pair)) (t : List ℕ) → IsSoundState old → Run Step old lines shown t new → IsSoundState new
+Run-sound old new [] shown t sound run = subst (λ (s : State). IsSoundState s) (sym run.2) sound
 Run-sound old new (line ∷ lines) shown t sound run = Run-sound run.4 new lines run.1 run.3 (step-sound old run.4 line run.2 run.0 sound run.7) run.8
 
 -- lines that show nothing

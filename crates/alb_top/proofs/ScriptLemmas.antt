@@ -1,28 +1,24 @@
 -- What the commands of a script make of it.
 use Rattle.std.proofs.Common.{◌≡◌, ℕ, ◌≤◌, Bool, true, false, length, Option, Some, None, refl, sym, ap, ap₂, ◌∙◌, subst, arith}
-use Rattle.alb_problem.specs.Builder.{Builder}
+use Rattle.alb_problem.specs.Builder.{Builder, finish_refusal, IsSoundProblem}
 use Rattle.alb_problem.specs.Problem.{problem, IsAccepted}
-use Rattle.alb_problem.specs.Refusals.{finish_refusal}
-use Rattle.alb_problem.specs.Sound.{IsSoundProblem}
 use Rattle.alb_problem.specs.declared.problem.Problem.{Problem}
 use Rattle.alb_problem.proofs.SoundLemmas.{accepted-finish}
 use Rattle.alb_script.specs.Asked as asking
-use Rattle.alb_script.specs.Asked.{Asked, view, HasRead}
+use Rattle.alb_script.specs.Asked.{Asked, view, IsCommandOver}
 use Rattle.alb_script.specs.declared.command.Command.{Command}
 use Rattle.alb_script.specs.declared.command.Command.TheVariants as commands
 use Rattle.alb_script.specs.declared.form.Form.{Form}
 use Rattle.alb_script.specs.declared.form.Form.TheVariants as form
 use Rattle.alb_question.specs.Question as questions
-use Rattle.alb_question.specs.Question.{Finding, IsFinding}
-use Rattle.alb_question.specs.Shot.{Shot, rules_of, IsBuilt}
+use Rattle.alb_question.specs.Question.{Finding, IsFinding, Shot, rules_of, IsBuilt}
 use Rattle.alb_question.specs.Views.{shot_of, IsTopic, IsQuestionOver}
 use Rattle.alb_question.specs.declared.topic.Topic.{Topic}
 use Rattle.alb_question.proofs.FindingLemmas.{findings-true}
 use Rattle.alb_question.proofs.ProblemRules.{topic-built, topic-finding}
-use Rattle.alb_top.specs.Modes.{script_form}
-use Rattle.alb_top.specs.Response.{Response, Built, Found}
-use Rattle.alb_top.specs.Script.{State, NoBlock, start, respond, BuildsBy, BuildsUnless, question_in, FindsBy, Obeys}
-use Rattle.alb_top.specs.Sound.{IsSound}
+use Rattle.alb_top.specs.Does.{script_form}
+use Rattle.alb_top.specs.Script.{Response, Built, Found, State, NoBlock, start, respond, BuildsBy, BuildsUnless, question_in, FindsBy, Obeys}
+use Rattle.alb_top.specs.Sound.{IsSoundState}
 use Rattle.alb_top.specs.View.{response_of, state, state_at, problem_of, IsStage, IsScript, IsQuestion, Begins}
 use Rattle.alb_top.specs.declared.mode.Mode.{Mode}
 use Rattle.alb_top.specs.declared.mode.Mode.TheVariants as mode
@@ -33,8 +29,8 @@ use Rattle.alb_top.specs.declared.script.Stage.TheVariants as stage
 use Rattle.alb_top.proofs.SoundLemmas.{sound-start}
 
 -- a script before its first line is sound
-pub opening-sound : (s : Script) → state s ≡ start (state s).mode (state s).form → IsScript s → IsSound (state s)
-opening-sound s is h = subst (λ (t : State). IsSound t) (sym is) (sound-start s.mode s.form h.reads)
+pub opening-sound : (s : Script) → state s ≡ start (state s).mode (state s).form → IsScript s → IsSoundState (state s)
+opening-sound s is h = subst (λ (t : State). IsSoundState t) (sym is) (sound-start s.mode s.form h.reads)
 
 -- the form of a check is read by its mode alone
 pub check-mode : (m : Mode) (f : Form) → script_form m ≡ Some f → f ≡ form.Check → m ≡ mode.Check
@@ -71,7 +67,7 @@ question-told s t a q x is h sound asks e found_is =
     (found s.mode s.form t s.closed s.clean q x h (subst (λ (u : State). IsSoundProblem u.problem) same sound) found_is))
 
 -- the question of a command that was read is one about the table
-pub read-question : (p n : ℕ) (c : Command) (q : questions.Question) → IsQuestion (view c) → question_in (view c) ≡ Some q → HasRead p n c → IsQuestionOver p n q
+pub read-question : (p n : ℕ) (c : Command) (q : questions.Question) → IsQuestion (view c) → question_in (view c) ≡ Some q → IsCommandOver p n c → IsQuestionOver p n q
 read-question p n (commands.Polynomial g) q h is r =
     let same : questions.Polynomial g ≡ q = cc in subst (IsQuestionOver p n) same (record { residues = r.residues; known = r.known })
 read-question p n (commands.Prove g) q h is r = let same : questions.Prove g ≡ q = cc in subst (IsQuestionOver p n) same (record { residues = r.residues; known = r.known })

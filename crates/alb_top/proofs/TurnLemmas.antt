@@ -7,14 +7,13 @@ use Rattle.alb_poly.specs.Poly.{Poly}
 use Rattle.alb_io.specs.Reader.{Reader}
 use Rattle.alb_io.specs.declared.step.LineStep.{LineStep}
 use Rattle.alb_io.specs.declared.step.LineStep.TheVariants as step
-use Rattle.alb_evidence.specs.Words.{is_end}
+use Rattle.alb_evidence.specs.Block.{is_end}
 use Rattle.alb_evidence.specs.Reads.{ReadsLine, ReadsLines, HasNoEnd, ReadsBlock, Breaks}
-use Rattle.alb_question.specs.Shot.{Pair}
+use Rattle.alb_question.specs.Question.{Pair}
 use Rattle.alb_script.specs.Asked.{Asked, Claim, command_word}
 use Rattle.alb_script.specs.declared.error.CommandError.{CommandError}
-use Rattle.alb_top.specs.Runs.{Run}
-use Rattle.alb_top.specs.Response.{Response, Nothing, Refused, OfCommand, TooLong, pair_shown}
-use Rattle.alb_top.specs.Script.{State, Open, NoBlock, Claimed, Skipped, Step, AnswersLine, AnswersIn, OfBlock, EndsBlock, Obeys, ObeysLine, Commands, refuse, is_claim, asked_of, text_of, respond}
+use Rattle.alb_top.specs.Outcome.{Run}
+use Rattle.alb_top.specs.Script.{Response, Nothing, Refused, OfCommand, TooLong, pair_shown, State, Open, NoBlock, Claimed, Skipped, Step, AnswersLine, AnswersIn, OfBlock, EndsBlock, Obeys, ObeysLine, Commands, refuse, is_claim, asked_of, text_of, respond}
 use Rattle.alb_top.specs.View.{state, response_of}
 use Rattle.alb_top.specs.declared.response.Response as Rust
 use Rattle.alb_top.specs.declared.script.Script.{Script}

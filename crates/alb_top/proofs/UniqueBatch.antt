@@ -2,27 +2,22 @@
 use Rattle.std.proofs.Common.{◌≡◌, ℕ, Bool, true, false, List, [], ◌∷◌, ◌++◌, length, Option, Some, None, Result, Ok, Err, refl, sym, ap, ap₂, ◌∙◌, subst, ◌⊎◌, inl, inr, append_assoc}
 use Rattle.std.specs.Prelude.{nat_lt, option_map}
 use Rattle.alb_poly.specs.Poly.{Poly}
-use Rattle.alb_problem.specs.Builder.{Builder}
-use Rattle.alb_problem.specs.Refusals as refusals
-use Rattle.alb_problem.specs.Refusals.{finish_refusal}
-use Rattle.alb_problem.specs.Sound.{forms_of}
+use Rattle.alb_problem.specs.Builder.{Builder, finish_refusal, forms_of}
+use Rattle.alb_problem.specs.Builder as refusals
 use Rattle.alb_script.specs.Asked as asking
 use Rattle.alb_script.specs.Asked.{Asked, command_word}
 use Rattle.alb_script.specs.declared.error.CommandError.{CommandError}
 use Rattle.alb_script.specs.declared.form.Form.TheVariants as form
 use Rattle.alb_evidence.specs.Block as block
-use Rattle.alb_evidence.specs.Block.{evidence_of}
-use Rattle.alb_evidence.specs.Words.{is_end}
+use Rattle.alb_evidence.specs.Block.{evidence_of, is_end}
 use Rattle.alb_judge.proofs.VerdictLemmas.{verdict-only}
 use Rattle.alb_question.specs.Laws.{IsProblem}
 use Rattle.alb_question.specs.Question as questions
-use Rattle.alb_question.specs.Question.{Question, Finding, IsFinding, answer_text, proof_text, finding_text}
-use Rattle.alb_question.specs.Shot.{Shot, Pair, pair_of, pair_line, rules_of, IsBuilt, built_text}
+use Rattle.alb_question.specs.Question.{Question, Finding, IsFinding, answer_text, proof_text, finding_text, Shot, Pair, pair_of, pair_line, rules_of, IsBuilt, built_text}
 use Rattle.alb_question.proofs.Alike.{built-unique, answers-alike}
-use Rattle.alb_top.specs.Response.{Response, Nothing, Accepted, Numbered, Ready, Built, Found, Refused, Judged, TooLong, OfCommand, OfProblem, shot_text, found_text, pair_shown}
-use Rattle.alb_top.specs.Runs.{Run, Answers}
-use Rattle.alb_top.specs.Script.{State, Open, NoBlock, Claimed, Skipped, start, stated, unless, respond, obey, Builds, BuildsBy, BuildsUnless, question_in, Finds, FindsBy, ObeysAs, Obeys, ObeysLine, Commands, refuse, is_claim, asked_of, letters_of, total_of, shut, Judges, EndsBlock, inside, OfBlock, AnswersIn, AnswersLine, AnswersEnd, Step, Finish, text_of}
-use Rattle.alb_top.specs.Sound.{IsSound}
+use Rattle.alb_top.specs.Script.{Response, Nothing, Accepted, Numbered, Ready, Built, Found, Refused, Judged, TooLong, OfCommand, OfProblem, shot_text, found_text, pair_shown, State, Open, NoBlock, Claimed, Skipped, start, stated, unless, respond, obey, Builds, BuildsBy, BuildsUnless, question_in, Finds, FindsBy, ObeysAs, Obeys, ObeysLine, Commands, refuse, is_claim, asked_of, letters_of, total_of, shut, JudgesClaim, EndsBlock, inside, OfBlock, AnswersIn, AnswersLine, AnswersEnd, Step, Finish, text_of}
+use Rattle.alb_top.specs.Outcome.{Run, AnswersAll}
+use Rattle.alb_top.specs.Sound.{IsSoundState}
 use Rattle.alb_top.specs.View.{StandsBy}
 use Rattle.alb_top.specs.Laws.{batch, HaveOwnEvidence, AnswerAlike, BatchIsUnique}
 use Rattle.alb_top.specs.declared.mode.Mode as modes
@@ -145,7 +140,7 @@ none-twins true b o p e w = absurd (cc)
 none-twins false b o p e w = subst (λ x. AreTwins true b x p) (sym w.0) (subst (λ x. AreTwins true b None x) (sym w.1) tt)
 
 -- a statement is answered plainly
-unless-plain : (o : Option refusals.Refusal) (r : Response) (new old : Builder) → IsPlain r → IsPlain (unless o r new old).0
+unless-plain : (o : Option refusals.ProblemRefusal) (r : Response) (new old : Builder) → IsPlain r → IsPlain (unless o r new old).0
 unless-plain None r new old p = p
 unless-plain (Some x) r new old p = tt
 
@@ -165,7 +160,7 @@ text-alike t u x y a b (inr e) = inr (record {
   right = b ∙ e.right;
 })
 
-module _ (old : State) (o : Option Shot) (sound : IsSound old) where
+module _ (old : State) (o : Option Shot) (sound : IsSoundState old) where
   abbrev old' : State
   old' = with_shot old o
 
@@ -184,7 +179,7 @@ module _ (old : State) (o : Option Shot) (sound : IsSound old) where
         },
       )
 
-  unless-same : (x : Option refusals.Refusal) → finish_refusal old.problem ≡ x → old.built ≡ false → HasTwin old o → AreSame (λ r n. BuildsUnless x old r n) (λ r n. BuildsUnless x old' r n)
+  unless-same : (x : Option refusals.ProblemRefusal) → finish_refusal old.problem ≡ x → old.built ≡ false → HasTwin old o → AreSame (λ r n. BuildsUnless x old r n) (λ r n. BuildsUnless x old' r n)
   unless-same None none early w = builds-same old.mode none early w
   unless-same (Some x) is early w = given-same (respond (Refused (OfProblem x)) old) o tt w
 
@@ -285,7 +280,7 @@ module _ (old : State) (o : Option Shot) (sound : IsSound old) where
 
   -- ---- blocks
 
-  judges-same : (f : Poly) (given : Result block.Evidence block.Fault) → HasTwin old o → AreSame (λ r n. Judges old f given r n) (λ r n. Judges old' f given r n)
+  judges-same : (f : Poly) (given : Result block.Evidence block.BlockFault) → HasTwin old o → AreSame (λ r n. JudgesClaim old f given r n) (λ r n. JudgesClaim old' f given r n)
   judges-same f given w r q m n h k =
       let e = verdict-only old.problem.field old.problem.counts (forms_of old.problem) f given h.verdict k.verdict h.judged k.judged in
       given-same (respond (Judged h.verdict) (shut old)) o tt w r q m n h.told (k.told ∙ ap (λ v. respond (Judged v) (shut old')) (sym e))
@@ -319,7 +314,7 @@ module _ (old : State) (o : Option Shot) (sound : IsSound old) where
 
 -- ---- transcripts
 
-step-alike : (old m n : State) (o : Option Shot) (line t u : List ℕ) (a b : Option Pair) → IsSound old → HasTwin old o → Step old line a t m → Step (with_shot old o) line b u n
+step-alike : (old m n : State) (o : Option Shot) (line t u : List ℕ) (a b : Option Pair) → IsSoundState old → HasTwin old o → Step old line a t m → Step (with_shot old o) line b u n
     → ((t ≡ u) ⊎ HaveOwnEvidence line t u) × (a ≡ b) × Twin m n
 step-alike old m n o line t u a b sound w x y =
     let e = line-alike old o sound old.closed line w x.response y.response m n x.answers y.answers in
@@ -329,15 +324,15 @@ record AreRuns (lines : List (List ℕ)) (ps qs : List (Option Pair)) (t u : Lis
   texts : (x y : List ℕ) → x ≡ y → AnswerAlike lines (t ++ x) (u ++ y)
   pairs : ps ≡ qs
   states : Twin m n
-  sound : IsSound m
+  sound : IsSoundState m
 
-run-alike : (old m n : State) (o : Option Shot) (lines : List (List ℕ)) (ps qs : List (Option Pair)) (t u : List ℕ) → IsSound old → HasTwin old o → Run Step old lines ps t m
+run-alike : (old m n : State) (o : Option Shot) (lines : List (List ℕ)) (ps qs : List (Option Pair)) (t u : List ℕ) → IsSoundState old → HasTwin old o → Run Step old lines ps t m
     → Run Step (with_shot old o) lines qs u n → AreRuns lines ps qs t u m n
 run-alike old m n o [] ps qs t u sound w a b = record {
   texts = λ x y e. ap (λ l. l ++ x) a.1 ∙ e ∙ sym (ap (λ l. l ++ y) b.1);
   pairs = a.0 ∙ sym b.0;
   states = record { other = o; is = b.2 ∙ ap (λ s. with_shot s o) (sym a.2); shots = subst (λ (s : State). HasTwin s o) (sym a.2) w };
-  sound = subst (λ (s : State). IsSound s) (sym a.2) sound;
+  sound = subst (λ (s : State). IsSoundState s) (sym a.2) sound;
 }
 run-alike old m n o (line ∷ lines) ps qs t u sound w a b =
     let e = step-alike old a.4 b.4 o line a.2 b.2 a.0 b.0 sound w a.7 b.7 in
@@ -358,7 +353,7 @@ run-alike old m n o (line ∷ lines) ps qs t u sound w a b =
       sound = r.sound;
     }
 
-finish-same : (old m n : State) (o : Option Shot) (t u : List ℕ) → IsSound old → HasTwin old o → Finish old t m → Finish (with_shot old o) u n → (t ≡ u) × Twin m n
+finish-same : (old m n : State) (o : Option Shot) (t u : List ℕ) → IsSoundState old → HasTwin old o → Finish old t m → Finish (with_shot old o) u n → (t ≡ u) × Twin m n
 finish-same old m n o t u sound w a b =
     let e = end-same old o sound old.closed w a.response b.response m n a.answers b.answers in
     let x = same-alike m n a.response b.response e.0 e.1 e.2 in

@@ -2,22 +2,18 @@
 use Rattle.std.proofs.Common.{◌≡◌, ℕ, Bool, true, false, List, [], ◌∷◌, ◌++◌, length, Option, Some, None, Result, Ok, Err, refl, sym, ap, ap₂, ◌∙◌, subst}
 use Rattle.std.specs.Prelude.{nat_lt}
 use Rattle.alb_poly.specs.Poly.{Poly}
-use Rattle.alb_problem.specs.Refusals as refusals
-use Rattle.alb_problem.specs.Refusals.{finish_refusal}
-use Rattle.alb_problem.specs.Sound.{forms_of}
+use Rattle.alb_problem.specs.Builder as refusals
+use Rattle.alb_problem.specs.Builder.{finish_refusal, forms_of}
 use Rattle.alb_script.specs.Asked as asking
 use Rattle.alb_script.specs.Asked.{Asked, command_word}
 use Rattle.alb_script.specs.declared.error.CommandError.{CommandError}
 use Rattle.alb_evidence.specs.Block as block
-use Rattle.alb_evidence.specs.Block.{evidence_of}
-use Rattle.alb_evidence.specs.Words.{is_end}
+use Rattle.alb_evidence.specs.Block.{evidence_of, is_end}
 use Rattle.alb_judge.specs.Verdict.{Verdict}
 use Rattle.alb_judge.proofs.VerdictLemmas.{verdict-only}
-use Rattle.alb_question.specs.Question.{Question}
-use Rattle.alb_question.specs.Shot.{Shot, Pair}
-use Rattle.alb_top.specs.Response.{Response, Nothing, Ready, Refused, Judged, TooLong, OfCommand, OfProblem, pair_shown}
-use Rattle.alb_top.specs.Runs.{Run, Answers}
-use Rattle.alb_top.specs.Script.{State, Open, NoBlock, Claimed, Skipped, start, stated, with_problem, respond, obey, BuildsBy, BuildsUnless, FindsBy, Obeys, ObeysLine, Commands, refuse, is_claim, asked_of, letters_of, shut, Judges, EndsBlock, inside, OfBlock, AnswersIn, AnswersLine, AnswersEnd, Step, Finish, text_of}
+use Rattle.alb_question.specs.Question.{Question, Shot, Pair}
+use Rattle.alb_top.specs.Script.{Response, Nothing, Ready, Refused, Judged, TooLong, OfCommand, OfProblem, pair_shown, State, Open, NoBlock, Claimed, Skipped, start, stated, with_problem, respond, obey, BuildsBy, BuildsUnless, FindsBy, Obeys, ObeysLine, Commands, refuse, is_claim, asked_of, letters_of, shut, JudgesClaim, EndsBlock, inside, OfBlock, AnswersIn, AnswersLine, AnswersEnd, Step, Finish, text_of}
+use Rattle.alb_top.specs.Outcome.{Run, AnswersAll}
 use Rattle.alb_top.specs.Laws.{check, CheckIsUnique}
 use Rattle.alb_top.specs.declared.mode.Mode as modes
 use Rattle.alb_top.specs.declared.mode.Mode.TheVariants as mode
@@ -29,7 +25,7 @@ pub record IsCheck (s : State) : Type 0 where
 
 -- there is at most one response, and after it a script of `check`
 abbrev IsOnly : (Response → State → Type 0) → Type 0
-IsOnly Answers = (r q : Response) (m n : State) → Answers r m → Answers q n → (r ≡ q) × (m ≡ n) × IsCheck m
+IsOnly AnswersAll = (r q : Response) (m n : State) → AnswersAll r m → AnswersAll q n → (r ≡ q) × (m ≡ n) × IsCheck m
 
 -- an answer that is given outright
 given-only : (a : Response × State) → IsCheck a.1 → IsOnly (λ r n. (r, n) ≡ a)
@@ -66,7 +62,7 @@ builds-only : (old : State) (m : modes.Mode) → m ≡ mode.Check → IsCheck ol
 builds-only old mode.Check is c = given-only (respond Ready (record old { built = true })) (record { mode = c.mode; shot = c.shot })
 builds-only old mode.Batch is c = absurd (cc)
 
-unless-only : (o : Option refusals.Refusal) (old : State) → IsCheck old → IsOnly (λ r n. BuildsUnless o old r n)
+unless-only : (o : Option refusals.ProblemRefusal) (old : State) → IsCheck old → IsOnly (λ r n. BuildsUnless o old r n)
 unless-only None old c = builds-only old old.mode c.mode c
 unless-only (Some x) old c = given-only (respond (Refused (OfProblem x)) old) (respond-check (Refused (OfProblem x)) old c)
 
@@ -103,7 +99,7 @@ commands-only false old line c = line_obeyed-only old line (asked_of old line) c
 
 -- ---- blocks
 
-judges-only : (old : State) (f : Poly) (given : Result block.Evidence block.Fault) → IsCheck old → IsOnly (λ r n. Judges old f given r n)
+judges-only : (old : State) (f : Poly) (given : Result block.Evidence block.BlockFault) → IsCheck old → IsOnly (λ r n. JudgesClaim old f given r n)
 judges-only old f given c r q m n h k =
     let e = verdict-only old.problem.field old.problem.counts (forms_of old.problem) f given h.verdict k.verdict h.judged k.judged in
     given-only (respond (Judged h.verdict) (shut old)) (record { mode = c.mode; shot = c.shot }) r q m n h.told

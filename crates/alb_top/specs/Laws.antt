@@ -1,15 +1,14 @@
 -- Laws that functions of `laws` state.
 use Rattle.std.specs.Prelude.{◌≡◌, ◌⊎◌, ◌≤◌, ℕ, false, true, List, [], ◌∷◌, ◌++◌, length, Option, Some, Ok}
-use Rattle.alb_io.specs.Lines.{lines_of}
+use Rattle.alb_io.specs.Reader.{lines_of}
 use Rattle.alb_poly.specs.Poly.{Poly}
 use Rattle.alb_script.specs.Asked as asking
 use Rattle.alb_script.specs.Asked.{Asked, Claim}
 use Rattle.alb_script.specs.declared.form.Form.TheVariants as form
 use Rattle.alb_judge.specs.Verdict.{Verdict, verdict_text}
 use Rattle.alb_question.specs.Laws.{verdict_of}
-use Rattle.alb_question.specs.Question.{Prove, Finding, IsFinding, answer_text}
-use Rattle.alb_question.specs.Shot.{Shot, Pair, rules_of}
-use Rattle.alb_top.specs.Runs.{Run, Answers}
+use Rattle.alb_question.specs.Question.{Prove, Finding, IsFinding, answer_text, Shot, Pair, rules_of}
+use Rattle.alb_top.specs.Outcome.{Run, AnswersAll}
 use Rattle.alb_top.specs.Script.{State, NoBlock, start, Step, Finish, asked_of}
 use Rattle.alb_top.specs.declared.mode.Mode.TheVariants as mode
 
@@ -22,7 +21,7 @@ batch = start mode.Batch form.Batch
 
 -- the transcript of a check is unique: its text, and the state after it
 abbrev pub CheckIsUnique : Type 0
-CheckIsUnique = (lines : List (List ℕ)) (shown other : List (Option Pair)) (t u : List ℕ) (last end : State) → Answers Step Finish check lines shown t last → Answers Step Finish check lines other u end
+CheckIsUnique = (lines : List (List ℕ)) (shown other : List (Option Pair)) (t u : List ℕ) (last end : State) → AnswersAll Step Finish check lines shown t last → AnswersAll Step Finish check lines other u end
     → (t ≡ u) × (last ≡ end)
 
 -- the texts are the same answer to `prove`, each with its own evidence after it
@@ -47,7 +46,7 @@ AnswerAlike (line ∷ lines) t u = (first : List ℕ) × (other : List ℕ) × (
 -- the transcript of a batch is unique but for the evidence that `prove` prints; so are the degrees and ends that it shows, and the
 -- state after it but for its table
 abbrev pub BatchIsUnique : Type 0
-BatchIsUnique = (lines : List (List ℕ)) (shown other : List (Option Pair)) (t u : List ℕ) (last end : State) → Answers Step Finish batch lines shown t last → Answers Step Finish batch lines other u end
+BatchIsUnique = (lines : List (List ℕ)) (shown other : List (Option Pair)) (t u : List ℕ) (last end : State) → AnswersAll Step Finish batch lines shown t last → AnswersAll Step Finish batch lines other u end
     → AnswerAlike lines t u × (shown ≡ other) × (end ≡ record last { shot = end.shot })
 
 -- ---- printed evidence

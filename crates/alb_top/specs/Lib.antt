@@ -1,6 +1,3 @@
-pub mod Modes
-pub mod Runs
-pub mod Response
 pub mod Script
 pub mod Sound
 pub mod View

@@ -1,19 +1,33 @@
--- What a run of a script did with the bytes that it took, by its status. The script opens in a state, which its mode names.
-use Rattle.std.specs.Prelude.{◌≡◌, ◌⊎◌, ℕ, ◌^◌, ◌<◌, ◌≤◌, Bool, true, false, List, [], ◌∷◌, ◌++◌, length, Option, None, Some}
+-- Transcripts, and what a run of a script did with the bytes that it took.
+use Rattle.std.specs.Prelude.{◌≡◌, List, [], ◌∷◌, ◌++◌, ℕ, ◌⊎◌, ◌^◌, ◌<◌, ◌≤◌, Bool, true, false, length, Option, None, Some}
 use Rattle.std.specs.Io.KnownBytes.{Consumes, Appends}
-use Rattle.alb_io.specs.Lines.{lines_of, whole_lines}
-use Rattle.alb_io.specs.Reading.{TakesLines}
-use Rattle.alb_question.specs.Shot.{Pair}
-use Rattle.alb_top.specs.Runs.{Run, Answers}
+use Rattle.alb_io.specs.Reader.{lines_of, whole_lines, TakesLines}
+use Rattle.alb_question.specs.Question.{Pair}
 use Rattle.alb_top.specs.Script.{State, Step, Finish}
 use Rattle.alb_io.specs.declared.status.Status.{Status}
 use Rattle.alb_io.specs.declared.status.Status.TheVariants as status
+
+-- ---- runs over lines, for any states, labels and steps. A step takes a line to a label, a text and a state, and may leave a choice
+
+-- The lines are answered by this text, one after the other, each step with its label.
+abbrev pub Run : {S L : Type 0} → (S → List ℕ → L → List ℕ → S → Type 0) → S → List (List ℕ) → List L → List ℕ → S → Type 0
+Run Step old [] labels text new = (labels ≡ []) × (text ≡ []) × (new ≡ old)
+Run {S} {L} Step old (line ∷ lines) labels text new =
+    (label : L) × (later : List L) × (first : List ℕ) × (rest : List ℕ) × (mid : S) × (labels ≡ label ∷ later) × (text ≡ first ++ rest) × Step old line label first mid
+    × Run Step mid lines later rest new
+
+-- The lines are answered by this text, and then the end of the lines.
+abbrev pub AnswersAll : {S L : Type 0} → (S → List ℕ → L → List ℕ → S → Type 0) → (S → List ℕ → S → Type 0) → S → List (List ℕ) → List L → List ℕ → S → Type 0
+AnswersAll {S} Step Finish old lines labels text new =
+    (body : List ℕ) × (end : List ℕ) × (last : S) × (text ≡ body ++ end) × Run Step old lines labels body last × Finish last end new
+
+-- ---- what a run of a script did with the bytes that it took, by its status. The script opens in a state, which its mode names
 
 -- the text is the transcript of the input, and the script is clean or not
 pub record IsTranscript (opening : State) (input text : List ℕ) (clean : Bool) : Type 0 where
   pub shown : List (Option Pair)
   pub last : State
-  pub answers : Answers Step Finish opening (lines_of input) shown text last
+  pub answers : AnswersAll Step Finish opening (lines_of input) shown text last
   pub judged : last.clean ≡ clean
 
 -- the text answers the whole lines of the bytes that were taken, and the script goes on
@@ -55,13 +69,13 @@ pub record EndsInside (opening : State) (input taken text : List ℕ) : Type 0 w
   pub closed : last.closed ≡ true
 
 -- the input was read to its end, with fewer bytes than the limit, or to the line that ends the script
-abbrev pub IsRead : State → List ℕ → List ℕ → List ℕ → Type 0
-IsRead opening input taken text = ((input ≡ taken) × (length taken < 2 ^ 40)) ⊎ EndsInside opening input taken text
+abbrev pub IsInputRead : State → List ℕ → List ℕ → List ℕ → Type 0
+IsInputRead opening input taken text = ((input ≡ taken) × (length taken < 2 ^ 40)) ⊎ EndsInside opening input taken text
 
 -- by the status, what the text is to the input, of which these bytes were taken, for a script that opens so
 abbrev pub Transcribes : State → Status → List ℕ → List ℕ → List ℕ → Type 0
-Transcribes opening status.Done input taken text = IsTranscript opening input text true × IsRead opening input taken text
-Transcribes opening status.Refused input taken text = IsTranscript opening input text false × IsRead opening input taken text
+Transcribes opening status.Done input taken text = IsTranscript opening input text true × IsInputRead opening input taken text
+Transcribes opening status.Refused input taken text = IsTranscript opening input text false × IsInputRead opening input taken text
 Transcribes opening status.ReadFault input taken text = AnswersSoFar opening taken text
 Transcribes opening status.InputLimit input taken text = AnswersSoFar opening taken text × (length taken ≡ 2 ^ 40)
 Transcribes opening status.WriteFault input taken text = IsFront opening input text

@@ -1,25 +1,80 @@
--- The scripts of a check and of a batch: what has been said so far, and what each line is answered.
-use Rattle.std.specs.Prelude.{◌≡◌, ℕ, ◌+◌, Bool, true, false, ◌&&◌, List, [], ◌∷◌, ◌++◌, length, sum, Option, None, Some, Result, Ok, Err, nat_lt, if◌then◌else◌}
-use Rattle.alb_poly.specs.Poly.{Poly}
-use Rattle.alb_problem.specs.Generators.{letters, counts}
-use Rattle.alb_problem.specs.Builder.{Builder}
-use Rattle.alb_problem.specs.Refusals as refusals
-use Rattle.alb_problem.specs.Sound.{forms_of}
-use Rattle.alb_script.specs.Asked as asking
-use Rattle.alb_script.specs.Asked.{Asked, Field, Generators, Identity, Build, Claim, Quit, asked, command_word}
-use Rattle.alb_script.specs.declared.form.Form as scripts
-use Rattle.alb_script.specs.declared.word.Word.{Word}
-use Rattle.alb_script.specs.declared.word.Word.TheVariants as word
+-- Scripts: their states, their responses, and what each line is answered.
+use Rattle.std.specs.Prelude.{ℕ, Bool, true, false, List, [], Option, None, Some, option_map, decimal, codes, ◌≡◌, ◌+◌, ◌&&◌, ◌∷◌, ◌++◌, length, sum, Result, Ok, Err, nat_lt, if◌then◌else◌}
+use Rattle.alb_script.specs.Refusals.{line_with, command_text, stated_text, refusal_text}
 use Rattle.alb_script.specs.declared.error.CommandError.{CommandError}
-use Rattle.alb_evidence.specs.Words.{is_end}
-use Rattle.alb_evidence.specs.Block.{Evidence, Fault, evidence_of}
-use Rattle.alb_judge.specs.Verdict.{Verdict, IsVerdict, IsJustified}
-use Rattle.alb_question.specs.Shot.{Shot, Pair, rules_of, IsBuilt}
-use Rattle.alb_question.specs.Question.{Question, Polynomial, Prove, Dimensions, Products, Finding, IsFinding}
-use Rattle.alb_question.specs.Meaning.{IsTrueOf}
-use Rattle.alb_top.specs.Response.{Response, Nothing, Accepted, Numbered, Ready, Built, Found, Refused, Judged, Refusal, TooLong, OfCommand, OfProblem, is_clean, response_text, pair_shown}
+use Rattle.alb_judge.specs.Verdict.{Verdict, is_accepted, verdict_text, IsVerdict, IsJustified}
+use Rattle.alb_question.specs.Question.{Shot, Pair, pair_of, built_text, Finding, finding_text, rules_of, IsBuilt, Question, Polynomial, Prove, Dimensions, Products, IsFinding, IsTrueOf}
+use Rattle.alb_poly.specs.Poly.{Poly}
+use Rattle.alb_problem.specs.Builder.{letters, counts, Builder, forms_of}
+use Rattle.alb_script.specs.Asked.{Asked, Field, Generators, Identity, Build, Claim, Quit, asked, command_word}
+use Rattle.alb_script.specs.declared.word.Word.{Word}
+use Rattle.alb_evidence.specs.Block.{is_end, Evidence, BlockFault, evidence_of}
+use Rattle.alb_problem.specs.Builder as refusals
+use Rattle.alb_script.specs.declared.refusal.Refusal.TheVariants as script
+use Rattle.alb_script.specs.Asked as asking
+use Rattle.alb_script.specs.declared.form.Form as scripts
+use Rattle.alb_script.specs.declared.word.Word.TheVariants as word
 use Rattle.alb_top.specs.declared.mode.Mode as modes
 use Rattle.alb_top.specs.declared.mode.Mode.TheVariants as mode
+
+-- ---- what a script answers, and how it prints
+
+-- why a line is refused: it is too long, it is no command here, or the problem does not accept it
+pub data Refusal : Type 0 where
+  TooLong : Refusal
+  OfCommand : CommandError → Refusal
+  OfProblem : refusals.ProblemRefusal → Refusal
+
+-- nothing, an acceptance, the table that was built, what was found for a question, a refusal or a verdict
+pub data Response : Type 0 where
+  Nothing : Response
+  Accepted : Response
+  Numbered : ℕ → Response
+  Ready : Response
+  Built : Response
+  Found : Finding → Response
+  Refused : Refusal → Response
+  Judged : Verdict → Response
+
+-- no line is refused by it, and no evidence rejected
+abbrev pub is_clean : Response → Bool
+is_clean (Refused r) = false
+is_clean (Judged v) = is_accepted v
+is_clean other = true
+
+-- ---- texts
+
+abbrev pub refusal_line : Refusal → List ℕ
+refusal_line TooLong = refusal_text script.TooLong
+refusal_line (OfCommand e) = command_text e
+refusal_line (OfProblem r) = stated_text r
+
+abbrev pub shot_text : Option Shot → List ℕ
+shot_text None = []
+shot_text (Some s) = built_text s
+
+abbrev pub found_text : List ℕ → Option Shot → Finding → List ℕ
+found_text letters None f = []
+found_text letters (Some s) f = finding_text letters s.table f
+
+-- the text of a response, by the letters of the generators and the shot
+abbrev pub response_text : List ℕ → Option Shot → Response → List ℕ
+response_text letters shot Nothing = []
+response_text letters shot Accepted = codes "ok\n"
+response_text letters shot (Numbered k) = line_with (codes "identity ") (decimal k)
+response_text letters shot Ready = codes "ready\n"
+response_text letters shot Built = shot_text shot
+response_text letters shot (Found f) = found_text letters shot f
+response_text letters shot (Refused r) = refusal_line r
+response_text letters shot (Judged v) = verdict_text v
+
+-- the degree and the end that its line shows, None where it shows none
+abbrev pub pair_shown : Option Shot → Response → Option Pair
+pair_shown shot Built = option_map pair_of shot
+pair_shown shot (Found f) = option_map pair_of shot
+pair_shown shot other = None
+
+-- ---- the scripts of a check and of a batch: what has been said so far, and what each line is answered
 
 -- What the lines of an open block come after: nothing, where no block is open; a claim, with the lines so far; or a claim whose
 -- line is refused, with its fault.
@@ -60,7 +115,7 @@ respond r s = (r, record s { clean = is_clean r && s.clean })
 -- ---- commands
 
 -- the response to what is accepted and the problem after it; or the refusal, which leaves the problem as it was
-abbrev pub unless : Option refusals.Refusal → Response → Builder → Builder → Response × Builder
+abbrev pub unless : Option refusals.ProblemRefusal → Response → Builder → Builder → Response × Builder
 unless None response new old = (response, new)
 unless (Some r) response new old = (Refused (OfProblem r), old)
 
@@ -93,7 +148,7 @@ abbrev pub BuildsBy : modes.Mode → State → Response → State → Type 0
 BuildsBy mode.Batch old response new = Builds old response new
 BuildsBy mode.Check old response new = (response, new) ≡ respond Ready (record old { built = true })
 
-abbrev pub BuildsUnless : Option refusals.Refusal → State → Response → State → Type 0
+abbrev pub BuildsUnless : Option refusals.ProblemRefusal → State → Response → State → Type 0
 BuildsUnless None old response new = BuildsBy old.mode old response new
 BuildsUnless (Some r) old response new = (response, new) ≡ respond (Refused (OfProblem r)) old
 
@@ -166,7 +221,7 @@ abbrev pub shut : State → State
 shut s = record s { block = NoBlock }
 
 -- A CLAIM IS ANSWERED by the verdict on its evidence, which is justified.
-pub record Judges (old : State) (claim : Poly) (given : Result Evidence Fault) (response : Response) (new : State) : Type 0 where
+pub record JudgesClaim (old : State) (claim : Poly) (given : Result Evidence BlockFault) (response : Response) (new : State) : Type 0 where
   pub verdict : Verdict
   pub judged : IsVerdict old.problem.field old.problem.counts (forms_of old.problem) claim given verdict
   pub justified : IsJustified old.problem.field old.problem.identities claim verdict
@@ -175,7 +230,7 @@ pub record Judges (old : State) (claim : Poly) (given : Result Evidence Fault) (
 -- the end of a block answers its claim: its line `end`, or the end of the input
 abbrev pub EndsBlock : Open → State → Bool → Response → State → Type 0
 EndsBlock NoBlock old has_end response new = (response ≡ Nothing) × (new ≡ old)
-EndsBlock (Claimed f lines) old has_end response new = Judges old f (evidence_of old.problem.field (letters_of old) lines has_end) response new
+EndsBlock (Claimed f lines) old has_end response new = JudgesClaim old f (evidence_of old.problem.field (letters_of old) lines has_end) response new
 EndsBlock (Skipped e) old has_end response new = (response, new) ≡ respond (Refused (OfCommand e)) (shut old)
 
 -- a line inside a block that does not end it

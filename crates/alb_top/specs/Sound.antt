@@ -1,10 +1,8 @@
 -- What is true of every state that a script comes to.
 use Rattle.std.specs.Prelude.{◌≡◌, Bool, true, false, Option, None, Some}
-use Rattle.alb_problem.specs.Builder.{Builder}
-use Rattle.alb_problem.specs.Refusals.{finish_refusal}
-use Rattle.alb_problem.specs.Sound.{IsSoundProblem}
-use Rattle.alb_question.specs.Shot.{Shot, rules_of, IsBuilt}
-use Rattle.alb_top.specs.Modes.{script_form}
+use Rattle.alb_problem.specs.Builder.{Builder, finish_refusal, IsSoundProblem}
+use Rattle.alb_question.specs.Question.{Shot, rules_of, IsBuilt}
+use Rattle.alb_top.specs.Does.{script_form}
 use Rattle.alb_top.specs.Script.{State, Open, Claimed}
 use Rattle.alb_top.specs.declared.mode.Mode.{Mode}
 use Rattle.alb_top.specs.declared.mode.Mode.TheVariants as mode
@@ -25,7 +23,7 @@ HasShot mode.Batch true b shot = HasBuilt b shot
 HasShot mode.Batch false b shot = Unit {0}
 HasShot mode.Check built b shot = Unit {0}
 
-pub record IsSound (s : State) : Type 0 where
+pub record IsSoundState (s : State) : Type 0 where
   pub problem : IsSoundProblem s.problem
   pub accepted : s.built ≡ true → finish_refusal s.problem ≡ None
   pub claims : IsAfterBuild s.block s.built

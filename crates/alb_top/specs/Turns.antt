@@ -1,21 +1,18 @@
 -- A run between two turns, and what one turn does.
 use Rattle.std.specs.Prelude.{◌≡◌, ℕ, ◌+◌, ◌<◌, ◌≤◌, ◌^◌, Bool, true, false, List, [], length, Option, Some, None}
 use Rattle.std.specs.Io.KnownBytes.{Appends}
-use Rattle.alb_io.specs.Reader.{Reader, Reads}
-use Rattle.alb_io.specs.Reading.{Reading}
+use Rattle.alb_io.specs.Reader.{Reader, Reads, Reading}
 use Rattle.alb_io.specs.declared.status.Status.{Status}
 use Rattle.alb_io.specs.declared.status.Status.TheVariants as status
 use Rattle.alb_io.specs.declared.step.LineStep.{LineStep}
 use Rattle.alb_io.specs.declared.step.LineStep.TheVariants as step
 use Rattle.alb_evidence.specs.Reads.{ReadsLine, ReadsLines}
 use Rattle.alb_poly.specs.Poly.{Poly}
-use Rattle.alb_question.specs.Shot.{Pair}
+use Rattle.alb_question.specs.Question.{Pair}
 use Rattle.alb_script.specs.declared.error.CommandError.{CommandError}
-use Rattle.alb_top.specs.Runs.{Run}
-use Rattle.alb_top.specs.Response.{Response}
-use Rattle.alb_top.specs.Script.{State, Claimed, Skipped, Step, EndsBlock, text_of}
+use Rattle.alb_top.specs.Outcome.{Run, AnswersUpTo}
+use Rattle.alb_top.specs.Script.{Response, State, Claimed, Skipped, Step, EndsBlock, text_of}
 use Rattle.alb_top.specs.View.{response_of, state, IsScript, IsWritable, AsksFor}
-use Rattle.alb_top.specs.Outcome.{AnswersUpTo}
 use Rattle.alb_top.specs.declared.asks.Asks.{Asks}
 use Rattle.alb_top.specs.declared.turn.Taken.{Taken}
 use Rattle.alb_top.specs.declared.turn.Taken.TheVariants as took

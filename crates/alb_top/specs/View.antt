@@ -3,14 +3,13 @@ use Rattle.std.specs.Prelude.{◌≡◌, ℕ, Bool, true, false, List, length, O
 use Rattle.alb_mono.specs.declared.error.NoMemory.{NoMemory}
 use Rattle.alb_problem.specs.Builder.{Builder}
 use Rattle.alb_problem.specs.Problem.{problem, IsAccepted}
-use Rattle.alb_problem.specs.Refusals as refusals
+use Rattle.alb_problem.specs.Builder as refusals
 use Rattle.alb_problem.specs.declared.problem.Problem.{Problem}
 use Rattle.alb_problem.specs.declared.error.ProblemError.{ProblemError}
 use Rattle.alb_problem.specs.declared.error.ProblemError.TheVariants as problem_error
 use Rattle.alb_script.specs.Asked as asking
-use Rattle.alb_script.specs.Asked.{Asked, Blank, Field, Generators, Identity, Build, Claim, Quit, view, command_word, HasRead, IsRead}
+use Rattle.alb_script.specs.Asked.{Asked, Blank, Field, Generators, Identity, Build, Claim, Quit, view, command_word, IsCommandOver, IsPolyOver, belongs}
 use Rattle.alb_script.specs.Refusals.{told_by_problem, is_memory, IsOverAlphabet}
-use Rattle.alb_script.specs.Words.{belongs}
 use Rattle.alb_script.specs.declared.command.Command.{Command}
 use Rattle.alb_script.specs.declared.command.Command.TheVariants as commands
 use Rattle.alb_script.specs.declared.error.CommandError.{CommandError}
@@ -21,11 +20,11 @@ use Rattle.alb_script.specs.declared.refusal.Refusal.{Refusal}
 use Rattle.alb_script.specs.declared.refusal.Refusal.TheVariants as refusal
 use Rattle.alb_script.specs.declared.word.Word.TheVariants as word
 use Rattle.alb_judge.specs.Views.{judgement}
-use Rattle.alb_question.specs.Shot.{Shot}
+use Rattle.alb_question.specs.Question.{Shot}
 use Rattle.alb_question.specs.Views.{finding_of, shot_of, IsTopic, IsPrintable}
 use Rattle.alb_question.specs.declared.finding.Finding.{Finding}
-use Rattle.alb_top.specs.Modes.{script_form}
-use Rattle.alb_top.specs.Response as responses
+use Rattle.alb_top.specs.Does.{script_form}
+use Rattle.alb_top.specs.Script as responses
 use Rattle.alb_top.specs.Script.{State, NoBlock, letters_of, asked_of, is_claim}
 use Rattle.alb_top.specs.declared.mode.Mode.{Mode}
 use Rattle.alb_top.specs.declared.mode.Mode.TheVariants as mode
@@ -40,7 +39,7 @@ use Rattle.alb_top.specs.declared.script.Stage.TheVariants as stage
 -- ---- responses
 
 -- a refusal by the problem; want of memory is none
-abbrev pub by_problem : Option refusals.Refusal → responses.Refusal
+abbrev pub by_problem : Option refusals.ProblemRefusal → responses.Refusal
 by_problem (Some r) = responses.OfProblem r
 by_problem None = responses.OfCommand command_error.NoMemory
 
@@ -189,8 +188,8 @@ AsksFor (asks.RefusedClaim e) s line = (asked_of s line ≡ Err e) × (is_claim 
 
 -- what is asked for may stand here, and is over the field and the letters; a refusal can be written
 abbrev pub MayBeAsked : Asks → State → Type 0
-MayBeAsked (asks.Command c) s = IsOrder (view c) × IsTimely s.form s.built (view c) × HasRead s.problem.field (length (letters_of s)) c
-MayBeAsked (asks.Claim f) s = (s.form ≡ form.Check) × (s.built ≡ true) × IsRead s.problem.field (length (letters_of s)) f
+MayBeAsked (asks.Command c) s = IsOrder (view c) × IsTimely s.form s.built (view c) × IsCommandOver s.problem.field (length (letters_of s)) c
+MayBeAsked (asks.Claim f) s = (s.form ≡ form.Check) × (s.built ≡ true) × IsPolyOver s.problem.field (length (letters_of s)) f
 MayBeAsked (asks.Refusal e) s = CanBeWritten (refusal.Command e)
 MayBeAsked (asks.RefusedClaim e) s = CanBeWritten (refusal.Command e)
 

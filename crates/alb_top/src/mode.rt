@@ -1,5 +1,5 @@
 ghost use Rattle.std.specs.Prelude.{◌≡◌};
-ghost use Rattle.alb_top.specs.Modes.{mode_of, script_form};
+ghost use Rattle.alb_top.specs.Does.{mode_of, script_form};
 
 use alb_script::Form;
 

@@ -1,5 +1,5 @@
 ghost use Rattle.std.specs.Prelude.{◌≡◌};
-ghost use Rattle.alb_top.specs.Response.{is_clean};
+ghost use Rattle.alb_top.specs.Script.{is_clean};
 ghost use Rattle.alb_top.specs.View.{response_of};
 
 use alb_judge::Verdict;

@@ -1,8 +1,7 @@
 ghost use Rattle.std.specs.Prelude.{◌≡◌, ◌≢◌, ◌↔◌, ◌≤◌, ◌^◌, [], true, false, None, Some};
 ghost use Rattle.std.specs.Io.KnownBytes.{Appends};
 ghost use Rattle.alb_io.specs.Causes.{HasCause, Rose};
-ghost use Rattle.alb_top.specs.Modes.{mode_of, may_open};
-ghost use Rattle.alb_top.specs.Does.{Does};
+ghost use Rattle.alb_top.specs.Does.{mode_of, may_open, Does};
 ghost use Rattle.alb_top.specs.Outcome.{Outcome};
 ghost use Rattle.alb_top.specs.Script.{start};
 ghost use Rattle.alb_top.specs.Turns.{status_of};

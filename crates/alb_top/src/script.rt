@@ -1,13 +1,12 @@
 //! A script as far as it was read, and what its commands make of it.
 ghost use Rattle.std.specs.Prelude.{◌≡◌, ◌≤◌, IfOk, IfErr, IfSome, IfNone, Some, None, true, false, length, sum};
 ghost use Rattle.alb_problem.specs.Problem.{IsAccepted};
-ghost use Rattle.alb_problem.specs.Sound.{IsSoundProblem};
-ghost use Rattle.alb_script.specs.Asked.{asked, view, command_word, or_error, Gives, HasRead, IsPlain, Build, Quit};
+ghost use Rattle.alb_problem.specs.Builder.{IsSoundProblem};
+ghost use Rattle.alb_script.specs.Asked.{asked, view, command_word, or_error, Gives, IsCommandOver, IsPlain, Build, Quit};
 ghost use Rattle.alb_judge.specs.Views.{judgement};
 ghost use Rattle.alb_question.specs.Views.{shot_of};
-ghost use Rattle.alb_top.specs.Modes.{script_form};
-ghost use Rattle.alb_top.specs.Response.{Nothing, Judged, Refused};
-ghost use Rattle.alb_top.specs.Script.{start, respond, obey, Obeys, letters_of, total_of};
+ghost use Rattle.alb_top.specs.Does.{script_form};
+ghost use Rattle.alb_top.specs.Script.{Nothing, Judged, Refused, start, respond, obey, Obeys, letters_of, total_of};
 ghost use Rattle.alb_top.specs.View.{response_of, refusal_of, state_at, IsWritable, IsWritten, CanBeWritten, Begins, IsStatement, IsTimely, IsOrder, IsQuestion, AsksFor, MayBeAsked};
 
 use crate::asks::{Asks, asks_of, question_in, refused};
@@ -53,7 +52,7 @@ fn read_about(
 ) -> Result<Command, BadCommand>
     requires { length line.now ≤ 65536 }
     ensures exact { Gives view (or_error result) (asked form true (sum problem.now.rules.target) problem.now.rules.field problem.now.letters line.now) }
-    ensures read { IfOk result (λ c. HasRead problem.now.rules.field (length problem.now.letters) c) }
+    ensures read { IfOk result (λ c. IsCommandOver problem.now.rules.field (length problem.now.letters) c) }
     ensures told { IfErr result (λ bad. IsPlain bad.error) }
     ensures word { IfErr result (λ bad. bad.word ≡ command_word form line.now) }
 {
@@ -136,7 +135,7 @@ impl Script {
     fn command(&self, alloc: Global, line: &[u8]) -> Result<Command, BadCommand>
         requires { length line.now ≤ 65536 }
         ensures exact { Gives view (or_error result) (asked (state self.now).form (state self.now).built (total_of (state self.now)) (state self.now).problem.field (letters_of (state self.now)) line.now) }
-        ensures read { IfOk result (λ c. HasRead (state self.now).problem.field (length (letters_of (state self.now))) c) }
+        ensures read { IfOk result (λ c. IsCommandOver (state self.now).problem.field (length (letters_of (state self.now))) c) }
         ensures told { IfErr result (λ bad. IsPlain bad.error) }
         ensures word { IfErr result (λ bad. bad.word ≡ command_word (state self.now).form line.now) }
     {
@@ -198,7 +197,7 @@ impl Script {
         requires statement { IsStatement (view command) }
         requires script { IsScript self }
         requires stating { (state self).built ≡ false }
-        requires read { HasRead (state self).problem.field (length (letters_of (state self))) command }
+        requires read { IsCommandOver (state self).problem.field (length (letters_of (state self))) command }
         ensures told { IfOk result (λ r. (response_of r.0, state r.1) ≡ obey (state self) (view command)) }
         ensures written { IfOk result (λ r. IsWritten r.0) }
         ensures script { IfOk result (λ r. IsScript r.1) }
@@ -229,7 +228,7 @@ impl Script {
     pub fn obey(self, alloc: Global, command: Command) -> Result<(Response, Script), NoMemory>
         requires order { IsOrder (view command) }
         requires timely { IsTimely (state self).form (state self).built (view command) }
-        requires read { HasRead (state self).problem.field (length (letters_of (state self))) command }
+        requires read { IsCommandOver (state self).problem.field (length (letters_of (state self))) command }
         requires script { IsScript self }
         requires sound { IsSoundProblem (state self).problem }
         ensures told { IfOk result (λ r. Obeys (state self) (view command) (response_of r.0) (state r.1)) }
@@ -251,7 +250,7 @@ impl Script {
     fn answer(self, alloc: Global, command: Command) -> Result<(Response, Script), NoMemory>
         requires question { IsQuestion (view command) }
         requires timely { IsTimely (state self).form (state self).built (view command) }
-        requires read { HasRead (state self).problem.field (length (letters_of (state self))) command }
+        requires read { IsCommandOver (state self).problem.field (length (letters_of (state self))) command }
         requires script { IsScript self }
         requires sound { IsSoundProblem (state self).problem }
         ensures told { IfOk result (λ r. Obeys (state self) (view command) (response_of r.0) (state r.1)) }

@@ -2,7 +2,7 @@
 ghost use Rattle.std.specs.Prelude.{◌≡◌, IfOk, OnErr};
 ghost use Rattle.alb_lex.specs.declared.token.Token.{Token};
 ghost use Rattle.alb_script.specs.Asked as asking;
-ghost use Rattle.alb_script.specs.Asked.{view, HasRead, IsRead};
+ghost use Rattle.alb_script.specs.Asked.{view, IsCommandOver, IsPolyOver};
 ghost use Rattle.alb_top.specs.Script.{stated};
 ghost use Rattle.alb_top.specs.View.{response_of, IsStatement, CanBeWritten, IsWritten, of_problem};
 
@@ -44,7 +44,7 @@ fn refusal(error: ProblemError) -> Result<Response, NoMemory>
 }
 
 fn add_identity(builder: &mut ProblemBuilder, f: Poly) -> Result<Response, NoMemory>
-    requires { IsRead builder.old.field 26 f }
+    requires { IsPolyOver builder.old.field 26 f }
     ensures told { IfOk result (λ r. (response_of r, builder.new) ≡ stated builder.old (asking.Identity f)) }
     ensures written { IfOk result (λ r. IsWritten r) }
     ensures unchanged { OnErr result (builder.new ≡ builder.old) }
@@ -58,7 +58,7 @@ fn add_identity(builder: &mut ProblemBuilder, f: Poly) -> Result<Response, NoMem
 /// Takes a statement about the problem. After `NoMemory` the problem is as it was.
 pub fn state_problem(builder: &mut ProblemBuilder, command: Command) -> Result<Response, NoMemory>
     requires statement { IsStatement (view command) }
-    requires read { HasRead builder.old.field 0 command }
+    requires read { IsCommandOver builder.old.field 0 command }
     ensures told { IfOk result (λ r. (response_of r, builder.new) ≡ stated builder.old (view command)) }
     ensures written { IfOk result (λ r. IsWritten r) }
     ensures unchanged { OnErr result (builder.new ≡ builder.old) }

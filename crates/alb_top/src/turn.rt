@@ -2,9 +2,9 @@ ghost use Rattle.std.specs.Prelude.{◌≡◌, if◌then◌else◌, ◌≢◌, �
 ghost use Rattle.alb_io.specs.Causes.{Rose};
 ghost use Rattle.alb_poly.specs.Poly.{AreResidues};
 ghost use Rattle.alb_problem.specs.Problem.{problem, IsAccepted};
-ghost use Rattle.alb_script.specs.Asked.{IsRead, view};
+ghost use Rattle.alb_script.specs.Asked.{IsPolyOver, view};
 ghost use Rattle.alb_top.specs.Script.{letters_of};
-ghost use Rattle.alb_top.specs.Sound.{IsSound};
+ghost use Rattle.alb_top.specs.Sound.{IsSoundState};
 ghost use Rattle.alb_top.specs.View.{state, IsScript, CanBeWritten, MayBeAsked};
 ghost use Rattle.alb_top.specs.Turns.{TakesTurn, TakesAsked, IsFine, claimed, skipping};
 
@@ -51,10 +51,10 @@ fn take_claim<S: Source>(
     requires running { reader.old.ended ≡ false }
     requires script { IsScript script }
     requires going { (state script).closed ≡ false }
-    requires sound { IsSound (state script) }
+    requires sound { IsSoundState (state script) }
     requires check { (state script).mode ≡ Mode.Check }
     requires built { (state script).built ≡ true }
-    requires read { IsRead (state script).problem.field (length (letters_of (state script))) claim.now }
+    requires read { IsPolyOver (state script).problem.field (length (letters_of (state script))) claim.now }
     ensures takes { TakesTurn result reader.old reader.new (claimed claim.now (state script)) (S.left input.old) (S.left input.new) }
     ensures fine { IsFine result }
     ensures later { S.faults input.old ≤ S.faults input.new }
@@ -114,7 +114,7 @@ fn take_asked<S: Source>(
     requires running { reader.old.ended ≡ false }
     requires script { IsScript script }
     requires going { (state script).closed ≡ false }
-    requires sound { IsSound (state script) }
+    requires sound { IsSoundState (state script) }
     requires asks { MayBeAsked asks (state script) }
     ensures takes { TakesAsked result asks reader.old reader.new (state script) (S.left input.old) (S.left input.new) }
     ensures fine { IsFine result }
@@ -146,7 +146,7 @@ pub fn take_turn<S: Source>(
     requires running { reader.old.ended ≡ false }
     requires script { IsScript script }
     requires going { (state script).closed ≡ false }
-    requires sound { IsSound (state script) }
+    requires sound { IsSoundState (state script) }
     ensures takes { TakesTurn result reader.old reader.new (state script) (S.left input.old) (S.left input.new) }
     ensures fine { IsFine result }
     ensures later { S.faults input.old ≤ S.faults input.new }

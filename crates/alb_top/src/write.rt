@@ -1,9 +1,8 @@
 //! The lines of responses.
 ghost use Rattle.std.specs.Prelude.{◌≡◌, length};
 ghost use Rattle.alb_io.specs.Writes.{Writes};
-ghost use Rattle.alb_top.specs.Response.{shot_text, found_text};
+ghost use Rattle.alb_top.specs.Script.{shot_text, found_text, text_of};
 ghost use Rattle.alb_question.specs.Views.{finding_of};
-ghost use Rattle.alb_top.specs.Script.{text_of};
 ghost use Rattle.alb_top.specs.View.{response_of, state, IsScript, IsWritable, HasSome, IsPrintableBy};
 
 use crate::response::Response;

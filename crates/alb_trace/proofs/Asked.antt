@@ -12,11 +12,9 @@ use Rattle.alb_poly.specs.Poly.{Poly, greatest_degree}
 use Rattle.alb_deriv.specs.Derivation.{Line}
 use Rattle.alb_deriv.specs.Short.{IsSumOf}
 use Rattle.alb_table.specs.Block.{spread}
-use Rattle.alb_table.specs.PartView.{elems, type_at}
-use Rattle.alb_table.specs.Right.{poly_value, IsWithin}
-use Rattle.alb_table.specs.RightFor.{RulesView, IsRightFor}
-use Rattle.alb_table.specs.RightTable.{basis_monos, mono_entry}
-use Rattle.alb_table.specs.Table.{Table, IsTable, CoversType}
+use Rattle.alb_table.specs.Table.{elems, type_at, Table, IsTable, CoversType}
+use Rattle.alb_table.specs.Right.{poly_value, IsWithinDegree}
+use Rattle.alb_table.specs.RightTable.{RulesView, IsRightFor, basis_monos, mono_entry}
 use Rattle.alb_table.proofs.PartLemmas.{sum-plus}
 use Rattle.alb_table.proofs.Right.{consequence-zero_value}
 use Rattle.alb_table.proofs.TableLemmas.{type_shape}
@@ -58,7 +56,7 @@ zero-within p fs target d g a = at-misfit (misfit target g) refl a
     at-misfit None e a = at-degree e (nat_lt d (greatest_degree g)) refl a
     at-misfit (Some m) e a = let x : Zero ≡ OutOfType m = a in absurd (cc)
 
-pub answered-within : (p : ℕ) (fs : List Form) (target : List ℕ) (d : ℕ) (g : Poly) → IsAnswer p fs target d g Zero → Each (λ s. IsWithin target d s.1) g
+pub answered-within : (p : ℕ) (fs : List Form) (target : List ℕ) (d : ℕ) (g : Poly) → IsAnswer p fs target d g Zero → Each (λ s. IsWithinDegree target d s.1) g
 answered-within p fs target d g a = let z = zero-within p fs target d g a in all-within target d g z.fits z.low
 
 -- what has the answer zero is the sum of its monomials less their values

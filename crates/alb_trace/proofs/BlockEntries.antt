@@ -13,18 +13,15 @@ use Rattle.gf_sums.proofs.Alike.{Alike, joined, turned}
 use Rattle.alb_mono.specs.Listing.{Each}
 use Rattle.alb_mono.specs.Tree.{Tree, node, degree}
 use Rattle.alb_mono.proofs.ListingLemmas.{each-weaker, each-at}
-use Rattle.alb_poly.specs.Algebra.{unit}
+use Rattle.alb_poly.specs.Textbook.{unit}
 use Rattle.alb_poly.specs.Poly.{Poly, list_eq}
 use Rattle.alb_poly.specs.Instance.{Form, IsMultilinearForm}
 use Rattle.alb_poly.specs.Consequence.{form_at}
 use Rattle.alb_poly.proofs.Multilinear.{each-from, each_from_all}
 use Rattle.alb_poly.proofs.Parts.{multilinear_at}
-use Rattle.alb_table.specs.Leading.{IsZeroAt}
-use Rattle.alb_table.specs.PartView.{PartView, elems, origins_at, mono_at}
-use Rattle.alb_table.specs.RightFor.{RulesView, IsRightFor}
-use Rattle.alb_table.specs.Table.{Table, CoversType}
-use Rattle.alb_table.specs.Right.{IsBasisTo, IsRight, IsTypeTo, IsOfType, IsWithin}
-use Rattle.alb_table.specs.RightTable.{basis_monos, mono_entry, instance_at}
+use Rattle.alb_table.specs.Right.{IsZeroAt, IsBasisTo, IsRight, IsTypeTo, IsOfType, IsWithinDegree}
+use Rattle.alb_table.specs.Table.{PartView, elems, origins_at, mono_at, Table, CoversType}
+use Rattle.alb_table.specs.RightTable.{RulesView, IsRightFor, basis_monos, mono_entry, instance_at}
 use Rattle.alb_rows.specs.Row.{Cells, comb, entry, IsRowOver}
 use Rattle.alb_rows.specs.Span.{SameSpan, combination}
 use Rattle.alb_rows.proofs.SpanLemmas.{pivot_through}
@@ -35,7 +32,7 @@ use Rattle.alb_table.proofs.Block.{number-free, free-entry}
 use Rattle.alb_table.proofs.Congruent.{difference-zero}
 use Rattle.alb_table.proofs.Spans.{spread-each}
 use Rattle.alb_table.proofs.Columns.{column-at}
-use Rattle.alb_table.specs.Block.{spread, InSpan, tuple_row, IsTupleAt, IsColumnAt, IsFreeAt, IsEntryAt, AreOriginsAt}
+use Rattle.alb_table.specs.Block.{spread, InNamedSpan, tuple_row, IsTupleAt, IsColumnAt, IsFreeAt, IsEntryAt, AreOriginsAt}
 use Rattle.alb_table.specs.Columns.{vector_of, AreColumns, HaveSpan, IsEntryRow, col}
 use Rattle.alb_table.proofs.FirstLemmas.{few_generators}
 use Rattle.alb_table.proofs.Right.{of_type-degree, right-table, element-columns_at}
@@ -178,7 +175,7 @@ module _ (given : RulesView) (t : Table) (g : IsRightFor given t) (w : List ℕ)
         whole = λ m h. a.whole m (upper-column m h);
       }
 
-  pub over-low : IsTable t.p given.forms (IsWithin t.target low) (IsBasisTo t.p given.forms t.target low) entries
+  pub over-low : IsTable t.p given.forms (IsWithinDegree t.target low) (IsBasisTo t.p given.forms t.target low) entries
   over-low = right-table t.p (pos given t g) given.forms g.multilinear g.high t.target low (basis_monos t.parts) entries
       (right-lower t.p (pos given t g) given.forms g.multilinear g.high t.target low (low + 1) (omega arith) (basis_monos t.parts) entries right)
 
@@ -241,7 +238,7 @@ module _ (given : RulesView) (t : Table) (g : IsRightFor given t) (w : List ℕ)
     family-past : (k i : ℕ) → length instances ≤ k → IsSameMod t.p (family k i) 0
     family-past k i l = same (ap (λ (x : Cells). entry x i) (with_past r.offers (length names) k block.offered_all.below (omega (arith, count))))
 
-    in-columns : (x : Poly) → InSpan t.p (IsTupleAt t.p given.forms t.target low w) (tuple_row given.forms entries) x → (m : Tree) → (IsZeroAt t.p x m → ⊥) → IsColumnAt t.p given.forms t.target low w m
+    in-columns : (x : Poly) → InNamedSpan t.p (IsTupleAt t.p given.forms t.target low w) (tuple_row given.forms entries) x → (m : Tree) → (IsZeroAt t.p x m → ⊥) → IsColumnAt t.p given.forms t.target low w m
     in-columns x s m n = element-columns_at t.p (pos given t g) given.forms g.multilinear g.high t.target low some entries over-low w to next x s m n
 
     have : HaveSpan t.p (IsTupleAt t.p given.forms t.target low w) (tuple_row given.forms entries) cols family

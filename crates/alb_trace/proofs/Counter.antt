@@ -17,8 +17,7 @@ use Rattle.alb_poly.proofs.Consequence.{poly_alike, tree_tells}
 use Rattle.alb_poly.proofs.NormalLemmas.{descending-canonical}
 use Rattle.alb_poly.proofs.Terms.{canonical-coefficients}
 use Rattle.alb_check.specs.SubTable.{sub_table, IsFirstType}
-use Rattle.alb_table.specs.Leading.{IsZeroAt}
-use Rattle.alb_table.specs.Right.{AreHigh, IsTypeTo, IsWithin, IsBasisTo, poly_value}
+use Rattle.alb_table.specs.Right.{IsZeroAt, AreHigh, IsTypeTo, IsWithinDegree, IsBasisTo, poly_value}
 use Rattle.alb_table.specs.RightTable.{IsRightTable, mono_entry}
 use Rattle.alb_table.specs.Table.{Table, IsTable}
 use Rattle.alb_table.proofs.Coefficients.{each-coefficient}
@@ -32,7 +31,7 @@ use Rattle.alb_trace.proofs.Shown.{pos, table, value-normal_form, counter-table}
 
 -- what an answer `not zero` says
 pub record IsNotZero (fs : List Form) (t : Table) (g f : Poly) : Type 0 where
-  pub within : Each (λ s. IsWithin t.target t.degree s.1) g
+  pub within : Each (λ s. IsWithinDegree t.target t.degree s.1) g
   pub none : IsConsequence t.p fs g → ⊥
   pub normal : IsNormalForm t.p fs g f
 
@@ -73,7 +72,7 @@ module _ (fs : List Form) (t : Table) (multi : AreMultilinear fs) (high : AreHig
   term-basis : (k : ℕ) (s : ℕ × Tree) → k < length f → get_or f k s ≡ s → IsBasisTo t.p fs t.target t.degree s.1
   term-basis k s l e =
       elim (each-coefficient same_tree tree_tells (IsBasisTo t.p fs t.target t.degree) (poly_value (mono_entry t.parts) g) s.1
-      (poly-value-basis t.p (pos fs t multi high tab right) fs (IsWithin t.target t.degree) (IsBasisTo t.p fs t.target t.degree) (mono_entry t.parts) (table fs t multi high tab right) g is.within)) [
+      (poly-value-basis t.p (pos fs t multi high tab right) fs (IsWithinDegree t.target t.degree) (IsBasisTo t.p fs t.target t.degree) (mono_entry t.parts) (table fs t multi high tab right) g is.within)) [
         | inl b ↦ b
         | inr z ↦ absurd (term-nonzero k s l e (poly_alike (turned (value-normal_form fs t multi high tab right g f is.within is.normal)) s.1 ⊙ same z))
       ]

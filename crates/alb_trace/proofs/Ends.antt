@@ -7,7 +7,7 @@ use Rattle.gf_sums.proofs.Alike.{Alike}
 use Rattle.alb_mono.specs.Listing.{Each}
 use Rattle.alb_poly.specs.Poly.{Poly}
 use Rattle.alb_poly.specs.Instance.{Form}
-use Rattle.alb_poly.specs.Rules.{forms}
+use Rattle.alb_poly.specs.Consequence.{forms}
 use Rattle.alb_poly.specs.declared.rules.Rules.{Rules}
 use Rattle.alb_poly.proofs.Consequence.{alike_poly, poly_alike}
 use Rattle.alb_linear.proofs.LinearLemmas.{each_from_all}
@@ -18,7 +18,7 @@ use Rattle.alb_deriv.specs.declared.line.Line.{Line}
 use Rattle.alb_deriv.specs.declared.line.Line.TheVariants.{Instance, Times, Sum}
 use Rattle.alb_deriv.proofs.Appended.{one-line}
 use Rattle.alb_deriv.proofs.Limited.{HasResidues, fine-limited}
-use Rattle.alb_table.specs.RightFor.{rules_view, AreRules}
+use Rattle.alb_table.specs.RightTable.{rules_view, AreRules}
 use Rattle.alb_table.specs.Table.{Table, IsTable}
 use Rattle.alb_trace.specs.Answer.{AreLinesFor}
 use Rattle.alb_trace.specs.Trace.{most_items, Derives}

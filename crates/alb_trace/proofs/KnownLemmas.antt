@@ -5,8 +5,7 @@ use Rattle.indexmap.specs.IndexMap.{get}
 use Rattle.std.specs.Prelude.{All}
 use Rattle.alb_mono.specs.Listing.{Each}
 use Rattle.alb_mono.proofs.ListingLemmas.{each-at}
-use Rattle.alb_mono.specs.Mono.{tree}
-use Rattle.alb_mono.specs.Tree.{same_tree}
+use Rattle.alb_mono.specs.Tree.{tree, same_tree}
 use Rattle.alb_mono.specs.declared.mono.Mono.{Mono}
 use Rattle.alb_poly.specs.Instance.{Form}
 use Rattle.alb_poly.specs.Poly.{Poly}
@@ -14,8 +13,7 @@ use Rattle.alb_poly.proofs.Consequence.{tree_tells}
 use Rattle.alb_poly.proofs.Multilinear.{each-append}
 use Rattle.alb_deriv.specs.Short.{AreFine, IsSumOf}
 use Rattle.alb_deriv.specs.Views.{line, IsLine}
-use Rattle.alb_table.specs.Grid.{same_pair}
-use Rattle.alb_table.specs.Table.{Table}
+use Rattle.alb_table.specs.Table.{same_pair, Table}
 use Rattle.alb_subst.proofs.SumLemmas.{pairs_tell}
 use Rattle.alb_trace.specs.Adds.{item_of, Adds}
 use Rattle.alb_trace.specs.Origins.{IsOriginBlock}

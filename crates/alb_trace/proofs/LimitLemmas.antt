@@ -15,11 +15,8 @@ use Rattle.alb_mono.proofs.Order.{cmp_trees_total}
 use Rattle.alb_poly.specs.Poly.{list_eq}
 use Rattle.alb_table.specs.Block.{IsPivotAt, IsColumnAt}
 use Rattle.alb_table.specs.Columns.{AreColumns, col}
-use Rattle.alb_table.specs.Entry.{products}
-use Rattle.alb_table.specs.PartView.{PartView, entries_at, origins_at, mono_at}
-use Rattle.alb_table.specs.RightFor.{RulesView, IsRightFor}
-use Rattle.alb_table.specs.RightTable.{instance_at}
-use Rattle.alb_table.specs.Table.{Table, CoversType, IsPartOf}
+use Rattle.alb_table.specs.Table.{products, PartView, entries_at, origins_at, mono_at, Table, CoversType, IsPartOf}
+use Rattle.alb_table.specs.RightTable.{RulesView, IsRightFor, instance_at}
 use Rattle.alb_table.proofs.Right.{element-columns_at}
 use Rattle.alb_table.proofs.RangeLemmas.{ats, entries_full}
 use Rattle.alb_table.proofs.TypesTo.{types_to-all}

@@ -7,7 +7,7 @@ use Rattle.alb_rows.specs.Row.{Cells, entry}
 use Rattle.alb_rows.specs.Span.{SpanWithin, SameSpan, IsReducedRow, rows_of}
 use Rattle.alb_rows.proofs.SpanLemmas.{span_zero, span_one, span_same, span_through, pivot_through}
 use Rattle.alb_reduce.specs.Reduction.{Reduction, kept, IsNewTag, IsTag, row_with, offered}
-use Rattle.alb_block.specs.Instances.{Setting, columns_of}
+use Rattle.alb_block.specs.Instances.{BlockSetting, columns_of}
 use Rattle.alb_block.specs.Offers.{IsRowOf}
 use Rattle.alb_trace.specs.Origins.{origin_at, HasOffered}
 
@@ -73,7 +73,7 @@ offered_spans p old new offers k row h s g = record {
 
 -- ---- the loop
 
-pub offered-none : (s : Setting) (r : Reduction) (names : List (ℕ × List ℕ)) → r.p ≡ s.p → r.columns ≡ length (columns_of s.parts s.at) → r.keeps_recipes ≡ true → r.rows ≡ [] → r.offers ≡ [] →
+pub offered-none : (s : BlockSetting) (r : Reduction) (names : List (ℕ × List ℕ)) → r.p ≡ s.p → r.columns ≡ length (columns_of s.parts s.at) → r.keeps_recipes ≡ true → r.rows ≡ [] → r.offers ≡ [] →
     HasOffered s r names 0
 offered-none s r names e w n rows none = record {
   field = e;
@@ -87,7 +87,7 @@ offered-none s r names e w n rows none = record {
   };
 }
 
-pub offered-more : (s : Setting) (old new : Reduction) (names : List (ℕ × List ℕ)) (k : ℕ) (row : Cells) → HasOffered s old names k → IsRowOf s (origin_at names k) row →
+pub offered-more : (s : BlockSetting) (old new : Reduction) (names : List (ℕ × List ℕ)) (k : ℕ) (row : Cells) → HasOffered s old names k → IsRowOf s (origin_at names k) row →
     SameSpan old.p (kept new) (rows_of (row ∷ old.rows)) → new.offers ≡ (if old.keeps_recipes then old.offers ++ (k, row) ∷ [] else old.offers) →
     (new.p ≡ old.p) × (new.columns ≡ old.columns) × (new.keeps_recipes ≡ old.keeps_recipes) → HasOffered s new names (k + 1)
 offered-more s old new names k row h is g o e =

@@ -6,16 +6,15 @@ use Rattle.gf_sums.specs.Sums.{Comb, coefficient, reindex}
 use Rattle.gf_sums.proofs.Alike.{Alike, itself, turned, joined, append-alike, scale-alike}
 use Rattle.alb_mono.specs.Listing.{Each}
 use Rattle.alb_mono.specs.Tree.{Tree, node, same_tree}
-use Rattle.alb_poly.specs.Algebra.{unit}
+use Rattle.alb_poly.specs.Textbook.{unit}
 use Rattle.alb_poly.specs.Poly.{Poly}
 use Rattle.alb_poly.specs.Instance.{Form}
 use Rattle.alb_poly.specs.Consequence.{AreMultilinear}
 use Rattle.alb_poly.proofs.Multilinear.{each-from}
 use Rattle.alb_rows.specs.Span.{combination, Same}
 use Rattle.alb_rows.specs.Span as Vectors
-use Rattle.alb_table.specs.Leading.{difference}
-use Rattle.alb_table.specs.Right.{AreHigh, IsWithin, IsBasisTo, IsTypeTo, IsRight}
-use Rattle.alb_table.specs.Block.{spread, InSpan, tuple_row, IsTupleAt, IsColumnAt, IsEntryAt}
+use Rattle.alb_table.specs.Right.{difference, AreHigh, IsWithinDegree, IsBasisTo, IsTypeTo, IsRight}
+use Rattle.alb_table.specs.Block.{spread, InNamedSpan, tuple_row, IsTupleAt, IsColumnAt, IsEntryAt}
 use Rattle.alb_table.specs.Columns.{vector_of, AreColumns, col, IsEntryRow}
 use Rattle.alb_table.proofs.Bases.{IsTable}
 use Rattle.alb_table.proofs.Block.{pivot-entry}
@@ -44,7 +43,7 @@ module _ (p : ℕ) (pos : 0 < p) (fs : List Form) (multi : AreMultilinear fs) (h
 
   module _ (d : ℕ) (one : 1 ≤ d) (basis : List ℕ → List Tree) (entry : Tree → Tree → Poly) (right : IsRight p fs target (d + 1) basis entry)
       (t : List ℕ) (ty : IsTypeTo target (d + 1) t) (next : sum t ≡ d + 1) where
-    lower : IsTable p fs (IsWithin target d) (IsBasisTo p fs target d) entry
+    lower : IsTable p fs (IsWithinDegree target d) (IsBasisTo p fs target d) entry
     lower = right-table p pos fs multi high target d basis entry (right-lower d (d + 1) (omega arith) basis entry right)
 
     -- What the block of a type has for a column is the entry of the table.
@@ -59,7 +58,7 @@ module _ (p : ℕ) (pos : 0 < p) (fs : List Form) (multi : AreMultilinear fs) (h
     abbrev Named : ℕ × List Tree → Type 0
     Named name = IsTupleAt p fs target d t name
 
-    columns : (x : Poly) → InSpan p Named (tuple_row fs entry) x → (m : Tree) → ((IsSameMod p (coefficient same_tree x m) 0) → ⊥) → IsColumnAt p fs target d t m
+    columns : (x : Poly) → InNamedSpan p Named (tuple_row fs entry) x → (m : Tree) → ((IsSameMod p (coefficient same_tree x m) 0) → ⊥) → IsColumnAt p fs target d t m
     columns x s m n = element-columns_at p pos fs multi high target d one entry lower t ty next x s m n
 
     -- An entry of the table from the kept origins of its block: with the vectors of their rows, the reduced row of the
@@ -67,7 +66,7 @@ module _ (p : ℕ) (pos : 0 < p) (fs : List Form) (multi : AreMultilinear fs) (h
     pub origin-entry : (cols : List Tree) (are : AreColumns (IsColumnAt p fs target d t) cols) (names : List (ℕ × List Tree)) (other : ℕ × List Tree) → Each Named names →
         (origins : ℕ → ℕ → ℕ) → ((k i : ℕ) → k < length names → IsSameMod p (origins k i) (vector_of cols (tuple_row fs entry (get_or names k other)) i)) →
         ((k i : ℕ) → length names ≤ k → IsSameMod p (origins k i) 0) →
-        ((name : ℕ × List Tree) → Named name → InSpan p (Contains names) (tuple_row fs entry) (tuple_row fs entry name)) →
+        ((name : ℕ × List Tree) → Named name → InNamedSpan p (Contains names) (tuple_row fs entry) (tuple_row fs entry name)) →
         (j : ℕ) → j < length cols → (v : ℕ → ℕ) → Vectors.IsReducedRow p origins j v → (e : Comb ℕ) → IsEntryRow p cols j v e →
         (items : List (ℕ × ℕ)) → Each (λ s. s.1 < length names) items → Same p (combination origins items) v →
         (b c : Tree) → col cols j ≡ node b c → IsColumnAt p fs target d t (node b c) → IsBasisTo p fs target d b → IsBasisTo p fs target d c →

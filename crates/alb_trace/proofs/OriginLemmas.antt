@@ -2,11 +2,10 @@
 use Rattle.std.proofs.Common.{◌≡◌, ℕ, ◌+◌, ◌-◌, ◌<◌, ◌≤◌, List, [], map, length, get_or, sum, sym, ap, ◌∙◌, subst, arith}
 use Rattle.std.specs.Prelude.{All, IsTrue, sum_by, true}
 use Rattle.gf_sums.specs.Sums.{total}
-use Rattle.alb_mono.specs.Mono.{tree}
-use Rattle.alb_mono.specs.Tree.{degree, are_below, listed, type_le, count as count_of}
+use Rattle.alb_mono.specs.Tree.{tree, degree, are_below, listed, type_le, count as count_of}
 use Rattle.alb_mono.specs.declared.mono.Mono.{Mono}
 use Rattle.alb_poly.proofs.Multilinear.{each-from, all_from_each}
-use Rattle.alb_poly.specs.Normal.{normal}
+use Rattle.alb_poly.specs.Poly.{normal}
 use Rattle.alb_deriv.specs.Derivation as value
 use Rattle.alb_deriv.specs.Derivation.{are_within}
 use Rattle.alb_deriv.proofs.Appended.{Appends}
@@ -14,22 +13,18 @@ use Rattle.alb_deriv.proofs.LineLemmas.{low-together, below-26}
 use Rattle.alb_table.proofs.FirstLemmas.{few_generators}
 use Rattle.alb_table.proofs.RightForLemmas.{right-linearized}
 use Rattle.alb_table.proofs.TableLemmas.{each-unmap}
-use Rattle.alb_table.specs.Right.{IsWithin}
-use Rattle.alb_table.specs.RightFor.{rules_view, AreRules, IsRightFor}
-use Rattle.alb_table.specs.RightTable.{instance_at}
+use Rattle.alb_table.specs.Right.{IsWithinDegree}
+use Rattle.alb_table.specs.RightTable.{rules_view, AreRules, IsRightFor, instance_at}
 use Rattle.alb_table.specs.Block.{IsTupleAt}
 use Rattle.std.proofs.lemmas.List.{length-map, get_or-map, length-reverse}
 use Rattle.alb_mono.specs.Listing.{Each}
 use Rattle.alb_poly.specs.Instance.{instance}
-use Rattle.alb_poly.specs.Consequence.{form_at}
-use Rattle.alb_poly.specs.Rules.{form, forms}
+use Rattle.alb_poly.specs.Consequence.{form_at, form, forms}
 use Rattle.alb_poly.specs.declared.rules.Linear.{Linear}
 use Rattle.alb_poly.specs.declared.rules.Rules.{Rules}
 use Rattle.alb_linear.specs.Identity.{IsLinearized}
 use Rattle.alb_rows.specs.Row.{Cells, ColumnsBelow}
-use Rattle.alb_table.specs.PartView.{elems, origin_view, origins_at, mono_at}
-use Rattle.alb_table.specs.Entry.{products}
-use Rattle.alb_table.specs.Table.{Table}
+use Rattle.alb_table.specs.Table.{elems, origin_view, origins_at, mono_at, products, Table}
 use Rattle.alb_table.specs.declared.part.Origin.{Origin}
 use Rattle.alb_subst.specs.Sums.{HasEntries, instance_row}
 use Rattle.alb_block.specs.Asked.{setting_of}
@@ -97,14 +92,14 @@ module _ (rules : Rules) (t : Table) (g : IsRightFor (rules_view rules) t) (w : 
           named = subst (λ xs. IsTupleAt t.p (forms rules) t.target (sum w - 1) w (o.identity, xs)) (sym are)
               (subst (λ s. IsTupleAt t.p (forms rules) t.target (sum w - 1) w (instance_at t.parts s)) (sym view) (origin-named (rules_view rules) t g w ty.covered ty.long ty.big k among))
 
-          monos-within : Each (λ m. IsWithin t.target (sum w - 1) (tree m)) ms
-          monos-within = each-unmap (IsWithin t.target (sum w - 1)) tree ms (each-from _ _ (map tree ms) (λ m b. b.within) named.basis)
+          monos-within : Each (λ m. IsWithinDegree t.target (sum w - 1) (tree m)) ms
+          monos-within = each-unmap (IsWithinDegree t.target (sum w - 1)) tree ms (each-from _ _ (map tree ms) (λ m b. b.within) named.basis)
 
           pub monos-known : All (λ m. IsTrue (are_below (length t.target) (tree m))) ms
           monos-known = all_from_each (λ m. IsTrue (are_below (length t.target) (tree m))) ms (each-from _ _ ms (λ m h. h.below) monos-within)
 
           pub monos-small : All (λ m. degree (tree m) ≤ 64) ms
-          monos-small = all_from_each (λ m. degree (tree m) ≤ 64) ms (each-from (λ m. IsWithin t.target (sum w - 1) (tree m)) _ ms (λ m h. (
+          monos-small = all_from_each (λ m. degree (tree m) ≤ 64) ms (each-from (λ m. IsWithinDegree t.target (sum w - 1) (tree m)) _ ms (λ m h. (
               let n : degree (tree m) ≤ sum w - 1 = h.degree in
               let l : sum w ≤ t.degree = ty.covered.degree_le in
               let u : t.degree ≤ sum t.target = g.table.within in

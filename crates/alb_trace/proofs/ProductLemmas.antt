@@ -13,11 +13,10 @@ use Rattle.alb_mono.specs.Listing.{Each}
 use Rattle.alb_mono.specs.Tree.{Tree, leaf, node, degree, type_of, type_plus}
 use Rattle.alb_mono.specs.declared.side.Side.TheVariants.{Left, Right}
 use Rattle.alb_mono.proofs.Leaves.{plus-node, plus_replicate}
-use Rattle.alb_poly.specs.Algebra.{unit}
-use Rattle.alb_poly.specs.Context.{beside}
+use Rattle.alb_poly.specs.Textbook.{unit}
+use Rattle.alb_poly.specs.Consequence.{beside}
 use Rattle.alb_poly.specs.Instance.{Form}
-use Rattle.alb_poly.specs.Normal.{normal}
-use Rattle.alb_poly.specs.Poly.{Poly}
+use Rattle.alb_poly.specs.Poly.{normal, Poly}
 use Rattle.alb_poly.specs.Terms.{term, terms}
 use Rattle.alb_poly.specs.declared.term.Term.{Term}
 use Rattle.alb_query.proofs.AnswerLemmas.{all-terms}
@@ -26,13 +25,10 @@ use Rattle.alb_poly.proofs.NormalLemmas.{normal-each, normal-alike}
 use Rattle.alb_rows.specs.Row.{Cells, comb}
 use Rattle.alb_deriv.specs.Short.{IsSumOf}
 use Rattle.alb_deriv.proofs.Appended.{sum-zero}
-use Rattle.alb_table.specs.Leading.{difference}
-use Rattle.alb_table.specs.PartView.{elems, type_at, mono_at, origins_at}
+use Rattle.alb_table.specs.Right.{difference, mono_value, IsOfType, IsTypeTo, IsWithinDegree}
+use Rattle.alb_table.specs.Table.{elems, type_at, mono_at, origins_at, Table}
 use Rattle.alb_table.specs.Block.{image, spread}
-use Rattle.alb_table.specs.Right.{mono_value, IsOfType, IsTypeTo, IsWithin}
-use Rattle.alb_table.specs.RightFor.{RulesView, IsRightFor}
-use Rattle.alb_table.specs.RightTable.{mono_entry, instance_at}
-use Rattle.alb_table.specs.Table.{Table}
+use Rattle.alb_table.specs.RightTable.{RulesView, IsRightFor, mono_entry, instance_at}
 use Rattle.alb_table.proofs.Congruent.{minus_one, minus_twice, difference-zero}
 use Rattle.alb_table.proofs.PartLemmas.{sum-plus}
 use Rattle.alb_table.proofs.Right.{of_type-degree, within-type, tuple_instance, instance-types, tuple-image_at}
@@ -42,10 +38,10 @@ use Rattle.alb_table.proofs.TableLemmas.{type_shape}
 use Rattle.alb_table.proofs.Types.{type-listed, type-node}
 use Rattle.alb_table.proofs.Within.{degree-same}
 use Rattle.alb_trace.specs.Adds.{IsLonger}
-use Rattle.alb_trace.specs.Given.{IsProductType, IsPartOf, IsValueRow}
+use Rattle.alb_trace.specs.Given.{IsProductType, IsPartOfType, IsValueRow}
 use Rattle.alb_trace.specs.Origins.{origin_at, product_type, origin_row, origin_instance}
 use Rattle.alb_trace.specs.Recipes.{IsProduct}
-use Rattle.alb_trace.specs.Trace.{lines_of, product_less, mono_less, image_less, entries_less, IsTrace, Pushes}
+use Rattle.alb_trace.specs.Trace.{lines_of, product_less, mono_less, image_less, entries_less, IsTrace, PushesItems}
 use Rattle.alb_trace.specs.declared.trace.Trace.{Trace}
 use Rattle.alb_trace.proofs.Adds.{longer-joined, longer-sum}
 use Rattle.alb_trace.proofs.BlockEntries.{next, some, to, over-low, origin-named}
@@ -100,7 +96,7 @@ type-product n l r =
 
 module _ (fs : List Form) (t : Table) where
   -- further lines first
-  pub pushes-after : (old mid new : Trace) (before after : List (ℕ × ℕ)) (f : Poly) → IsLonger (lines_of old) (lines_of mid) → Pushes fs t mid new before after f → Pushes fs t old new before after f
+  pub pushes-after : (old mid new : Trace) (before after : List (ℕ × ℕ)) (f : Poly) → IsLonger (lines_of old) (lines_of mid) → PushesItems fs t mid new before after f → PushesItems fs t old new before after f
   pushes-after old mid new before after f l h = record {
     trace = h.trace;
     longer = longer-joined l h.longer;
@@ -109,41 +105,41 @@ module _ (fs : List Form) (t : Table) where
   }
 
   -- a sum that began with no items
-  pub pushes-sum : (old new : Trace) (before after : List (ℕ × ℕ)) (f : Poly) → before ≡ [] → Pushes fs t old new before after f → IsSumOf t.p fs (lines_of new) after f
+  pub pushes-sum : (old new : Trace) (before after : List (ℕ × ℕ)) (f : Poly) → before ≡ [] → PushesItems fs t old new before after f → IsSumOf t.p fs (lines_of new) after f
   pushes-sum old new before after f e h =
-      let g : Pushes fs t old new [] after f = subst (λ xs. Pushes fs t old new xs after f) e h in
+      let g : PushesItems fs t old new [] after f = subst (λ xs. PushesItems fs t old new xs after f) e h in
       g.sum [] (sum-zero t.p fs (lines_of old))
 
-  pub pushes-residues : (old new : Trace) (before after : List (ℕ × ℕ)) (f : Poly) → before ≡ [] → Pushes fs t old new before after f → All (λ c. c.0 < t.p) after
+  pub pushes-residues : (old new : Trace) (before after : List (ℕ × ℕ)) (f : Poly) → before ≡ [] → PushesItems fs t old new before after f → All (λ c. c.0 < t.p) after
   pushes-residues old new before after f e h =
-      let g : Pushes fs t old new [] after f = subst (λ xs. Pushes fs t old new xs after f) e h in
+      let g : PushesItems fs t old new [] after f = subst (λ xs. PushesItems fs t old new xs after f) e h in
       g.residues (λ k d l. absurd (omega arith))
 
   -- one more term of a combination
   pub pushes-term : {I : Type 0} (old mid new : Trace) (before between after : List (ℕ × ℕ)) (h : I → Poly) (xs : Comb I) (k : ℕ) (d : ℕ × I) → k < length xs →
-      Pushes fs t old mid before between (spread h (take k xs)) → Pushes fs t mid new between after (scale (get_or xs k d).0 (h (get_or xs k d).1)) →
-      Pushes fs t old new before after (spread h (take (k + 1) xs))
+      PushesItems fs t old mid before between (spread h (take k xs)) → PushesItems fs t mid new between after (scale (get_or xs k d).0 (h (get_or xs k d).1)) →
+      PushesItems fs t old new before after (spread h (take (k + 1) xs))
   pushes-term old mid new before between after h xs k d l a b =
       rw (take_more xs k d l) (pushes-alike fs t (turned (spread-term h (take k xs) (get_or xs k d))) (pushes-then fs t a b))
 
   -- the same, with two factors
   pub pushes-scaled : (old mid new : Trace) (before between after : List (ℕ × ℕ)) (y c : ℕ) (h : Tree → Poly) (xs : Poly) (k : ℕ) (s : ℕ × Tree) → k < length xs → s ≡ get_or xs k s →
-      Pushes fs t old mid before between (scale y (scale c (spread h (take k xs)))) → Pushes fs t mid new between after (scale y (scale c (scale s.0 (h s.1)))) →
-      Pushes fs t old new before after (scale y (scale c (spread h (take (k + 1) xs))))
+      PushesItems fs t old mid before between (scale y (scale c (spread h (take k xs)))) → PushesItems fs t mid new between after (scale y (scale c (scale s.0 (h s.1)))) →
+      PushesItems fs t old new before after (scale y (scale c (spread h (take (k + 1) xs))))
   pushes-scaled old mid new before between after y c h xs k s l e a b =
       let q : take (k + 1) xs ≡ take k xs ++ s ∷ [] = take_more xs k s l ∙ ap (λ x. take k xs ++ x ∷ []) (sym e) in
-      subst (λ f. Pushes fs t old new before after (scale y (scale c (spread h f)))) (sym q) (pushes-alike fs t
+      subst (λ f. PushesItems fs t old new before after (scale y (scale c (spread h f)))) (sym q) (pushes-alike fs t
       (joined (scale-joined y (scale c (spread h (take k xs))) (scale c (scale s.0 (h s.1))))
       (scale-alike y (joined (scale-joined c (spread h (take k xs)) (scale s.0 (h s.1))) (scale-alike c (turned (spread-term h (take k xs) s)))))) (pushes-then fs t a b))
 
   -- nothing yet
-  pub pushes-nothing : (s : Trace) (before : List (ℕ × ℕ)) → IsTrace fs t s → Pushes fs t s s before before []
+  pub pushes-nothing : (s : Trace) (before : List (ℕ × ℕ)) → IsTrace fs t s → PushesItems fs t s s before before []
   pushes-nothing s before h = pushes-itself fs t s before [] h (itself [])
 
 module _ (given : RulesView) (t : Table) (g : IsRightFor given t) where
   -- ---- the products of the parts of two values
 
-  part-degree : (m : Tree) (b : ℕ) → b < length (elems t.parts) → IsPartOf given.forms t m (mono_at t.parts b) → sum (type_at t.parts b) ≡ degree m
+  part-degree : (m : Tree) (b : ℕ) → b < length (elems t.parts) → IsPartOfType given.forms t m (mono_at t.parts b) → sum (type_at t.parts b) ≡ degree m
   part-degree m b l k = sym (of_type-degree (type_at t.parts b) (mono_at t.parts b) (number-type given.forms t g.table g.right.right b l)) ∙ degree-same (mono_at t.parts b) m k.type
 
   -- the degree of a column of a value
@@ -156,8 +152,8 @@ module _ (given : RulesView) (t : Table) (g : IsRightFor given t) where
       ap (λ k. type_of k (mono_at t.parts b)) (sym n) ∙ (number-type given.forms t g.table g.right.right b l).counts
 
   -- the product of two parts has an entry
-  parts-product : (l r : Tree) → IsWithin t.target t.degree (node l r) → (b c : ℕ) → b < length (elems t.parts) → c < length (elems t.parts) →
-      IsPartOf given.forms t l (mono_at t.parts b) → IsPartOf given.forms t r (mono_at t.parts c) → IsProduct t (b, c)
+  parts-product : (l r : Tree) → IsWithinDegree t.target t.degree (node l r) → (b c : ℕ) → b < length (elems t.parts) → c < length (elems t.parts) →
+      IsPartOfType given.forms t l (mono_at t.parts b) → IsPartOfType given.forms t r (mono_at t.parts c) → IsProduct t (b, c)
   parts-product l r w b c hb hc kb kc =
       let n : ℕ = length t.target in
       let e : type_of n (node l r) ≡ product_type t (b, c) =
@@ -173,7 +169,7 @@ module _ (given : RulesView) (t : Table) (g : IsRightFor given t) where
         type = record { covered = record { within = ty.le; degree_le = ty.degree }; long = ty.counts; big = omega (arith, s, x.some, y.some) };
       }
 
-  pub row-products : (l r : Tree) → IsWithin t.target t.degree (node l r) → (left right : Cells) → IsValueRow given.forms t l left → IsValueRow given.forms t r right → (k : ℕ) (d : ℕ × ℕ) → k < length left →
+  pub row-products : (l r : Tree) → IsWithinDegree t.target t.degree (node l r) → (left right : Cells) → IsValueRow given.forms t l left → IsValueRow given.forms t r right → (k : ℕ) (d : ℕ × ℕ) → k < length left →
       All (λ cell. IsProduct t ((get_or left k d).0, cell.0)) right
   row-products l r w left right vl vr k d h = λ i e m.
       parts-product l r w (get_or left k d).0 (get_or right i e).0 (vl.vector.below k d h) (vr.vector.below i e m) (vl.parts k d h) (vr.parts i e m)

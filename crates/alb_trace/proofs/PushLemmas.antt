@@ -17,7 +17,7 @@ use Rattle.alb_table.specs.Block.{spread}
 use Rattle.alb_table.specs.Table.{Table}
 use Rattle.alb_table.proofs.Spans.{weigh-spread}
 use Rattle.alb_trace.specs.Adds.{item_of, item_times}
-use Rattle.alb_trace.specs.Trace.{lines_of, IsTrace, Derives, Pushes}
+use Rattle.alb_trace.specs.Trace.{lines_of, IsTrace, Derives, PushesItems}
 use Rattle.alb_trace.specs.declared.trace.Citation.{Citation}
 use Rattle.alb_trace.specs.declared.trace.Citation.TheVariants as citations
 use Rattle.alb_trace.specs.declared.trace.Trace.{Trace}
@@ -50,7 +50,7 @@ spread-reindex g h f = equal _ _ (λ w. weigh-spread w (λ b. h (g b)) f ∙ sym
 
 module _ (fs : List Form) (t : Table) where
   -- nothing for zero
-  pub pushes-itself : (s : Trace) (before : List (ℕ × ℕ)) (f : Poly) → IsTrace fs t s → Alike t.p f [] → Pushes fs t s s before before f
+  pub pushes-itself : (s : Trace) (before : List (ℕ × ℕ)) (f : Poly) → IsTrace fs t s → Alike t.p f [] → PushesItems fs t s s before before f
   pushes-itself s before f h z = record {
     trace = h;
     longer = longer-itself (lines_of s);
@@ -58,7 +58,7 @@ module _ (fs : List Form) (t : Table) where
     sum = λ g a. sum-alike t.p fs (joined (equal _ _ (λ w. sym (weigh-append w g [] ∙ omega arith))) (append-alike (itself g) (turned z))) a;
   }
 
-  pub pushes-alike : {old new : Trace} {before after : List (ℕ × ℕ)} {f g : Poly} → Alike t.p f g → Pushes fs t old new before after f → Pushes fs t old new before after g
+  pub pushes-alike : {old new : Trace} {before after : List (ℕ × ℕ)} {f g : Poly} → Alike t.p f g → PushesItems fs t old new before after f → PushesItems fs t old new before after g
   pushes-alike a h = record {
     trace = h.trace;
     longer = h.longer;
@@ -67,8 +67,8 @@ module _ (fs : List Form) (t : Table) where
   }
 
   -- one after the other
-  pub pushes-then : {old mid new : Trace} {before between after : List (ℕ × ℕ)} {f g : Poly} → Pushes fs t old mid before between f → Pushes fs t mid new between after g →
-      Pushes fs t old new before after (f ++ g)
+  pub pushes-then : {old mid new : Trace} {before between after : List (ℕ × ℕ)} {f g : Poly} → PushesItems fs t old mid before between f → PushesItems fs t mid new between after g →
+      PushesItems fs t old new before after (f ++ g)
   pushes-then {new = new} {after = after} {f = f} {g = g} a b = record {
     trace = b.trace;
     longer = longer-joined a.longer b.longer;
@@ -78,7 +78,7 @@ module _ (fs : List Form) (t : Table) where
 
   -- a multiple of what is derived
   pub pushes-item : (old new : Trace) (before : List (ℕ × ℕ)) (o : Citation) (y : ℕ) (f : Poly) → y < t.p → Derives fs t old new o f →
-      Pushes fs t old new before (before ++ item_times y o) (scale y f)
+      PushesItems fs t old new before (before ++ item_times y o) (scale y f)
   pushes-item old new before o y f l d = record {
     trace = d.trace;
     longer = d.adds.longer;
@@ -96,15 +96,15 @@ module _ (fs : List Form) (t : Table) where
 
   -- one more term of a combination over the columns of a row
   pub pushes-next : (old mid new : Trace) (before between after : List (ℕ × ℕ)) (c y : ℕ) (h : ℕ → Poly) (cells : Cells) (k : ℕ) (d : ℕ × ℕ) → k < length cells →
-      IsSameMod t.p y (c * (get_or cells k d).1) → Pushes fs t old mid before between (scale c (spread h (comb (take k cells)))) →
-      Pushes fs t mid new between after (scale y (h (get_or cells k d).0)) → Pushes fs t old new before after (scale c (spread h (comb (take (k + 1) cells))))
+      IsSameMod t.p y (c * (get_or cells k d).1) → PushesItems fs t old mid before between (scale c (spread h (comb (take k cells)))) →
+      PushesItems fs t mid new between after (scale y (h (get_or cells k d).0)) → PushesItems fs t old new before after (scale c (spread h (comb (take (k + 1) cells))))
   pushes-next old mid new before between after c y h cells k d l e a b =
       rw (take_more cells k d l) (pushes-alike (scaled-more c y h (take k cells) (get_or cells k d) e) (pushes-then a b))
 
   -- before the first term, and after the last
-  pub pushes-first : (s : Trace) (before : List (ℕ × ℕ)) (c : ℕ) (h : ℕ → Poly) (cells : Cells) → IsTrace fs t s → Pushes fs t s s before before (scale c (spread h (comb (take 0 cells))))
+  pub pushes-first : (s : Trace) (before : List (ℕ × ℕ)) (c : ℕ) (h : ℕ → Poly) (cells : Cells) → IsTrace fs t s → PushesItems fs t s s before before (scale c (spread h (comb (take 0 cells))))
   pushes-first s before c h cells k = pushes-itself s before (scale c (spread h (comb (take 0 cells)))) k (itself [])
 
   pub pushes-last : (old new : Trace) (before after : List (ℕ × ℕ)) (c : ℕ) (h : ℕ → Poly) (cells : Cells) (k : ℕ) → length cells ≤ k →
-      Pushes fs t old new before after (scale c (spread h (comb (take k cells)))) → Pushes fs t old new before after (scale c (spread h (comb cells)))
-  pushes-last old new before after c h cells k l a = subst (λ xs. Pushes fs t old new before after (scale c (spread h (comb xs)))) (take_all k cells l) a
+      PushesItems fs t old new before after (scale c (spread h (comb (take k cells)))) → PushesItems fs t old new before after (scale c (spread h (comb cells)))
+  pushes-last old new before after c h cells k l a = subst (λ xs. PushesItems fs t old new before after (scale c (spread h (comb xs)))) (take_all k cells l) a

@@ -7,14 +7,14 @@ use Rattle.gf_sums.specs.Sums.{Comb, reindex}
 use Rattle.gf_sums.proofs.Alike.{Alike, itself, turned, joined}
 use Rattle.alb_mono.specs.Listing.{Each}
 use Rattle.alb_mono.specs.Tree.{Tree}
-use Rattle.alb_poly.specs.Algebra.{unit}
+use Rattle.alb_poly.specs.Textbook.{unit}
 use Rattle.alb_poly.specs.Poly.{Poly}
 use Rattle.alb_poly.proofs.Consequence.{alike_poly, poly_alike}
 use Rattle.alb_poly.proofs.Multilinear.{each-from}
 use Rattle.alb_rows.specs.Span.{combination, Same}
 use Rattle.alb_rows.specs.Span as Vectors
-use Rattle.alb_table.specs.Leading.{IsZeroAt, difference}
-use Rattle.alb_table.specs.Block.{spread, InSpan}
+use Rattle.alb_table.specs.Right.{IsZeroAt, difference}
+use Rattle.alb_table.specs.Block.{spread, InNamedSpan}
 use Rattle.alb_table.specs.Columns.{vector_of, AreColumns, col, HaveSpan, IsEntryRow}
 use Rattle.alb_table.proofs.Columns.{element-vector, rows-have-span, vector-spread, vectors-alike, element, at_monomial}
 
@@ -40,10 +40,10 @@ module _ {N : Type 0} (Named : N → Type 0) (names : List N) (d : N) (named : E
   recipe-named (s ∷ items) a = (at_place Named names s.1 d named a.0, recipe-named items a.1)
 
 module _ {N : Type 0} (p : ℕ) (pos : 0 < p) (Named : N → Type 0) (row : N → Poly) (Column : Tree → Type 0) (cols : List Tree) (are : AreColumns Column cols)
-    (columns : (x : Poly) → InSpan p Named row x → (m : Tree) → (IsZeroAt p x m → ⊥) → Column m) where
+    (columns : (x : Poly) → InNamedSpan p Named row x → (m : Tree) → (IsZeroAt p x m → ⊥) → Column m) where
   -- An element whose vector is the reduced row of a column is the column less its entry.
   pub entry-element : {K : Type 0} (f : K → ℕ → ℕ) (span : HaveSpan p Named row cols f) (j : ℕ) → j < length cols → (v : ℕ → ℕ) → Vectors.IsReducedRow p f j v → (e : Comb ℕ) →
-      IsEntryRow p cols j v e → (y : Poly) → InSpan p Named row y → ((i : ℕ) → IsSameMod p (v i) (vector_of cols y i)) →
+      IsEntryRow p cols j v e → (y : Poly) → InNamedSpan p Named row y → ((i : ℕ) → IsSameMod p (v i) (vector_of cols y i)) →
       Alike p (difference p (unit (col cols j)) (reindex (col cols) e)) y
   entry-element f span j here v reduced e entry y s h =
       let u = element p Named row Column cols are f span columns pos j here v reduced e entry in
@@ -63,13 +63,13 @@ module _ {N : Type 0} (p : ℕ) (pos : 0 < p) (Named : N → Type 0) (row : N �
         Alike p (difference p (unit (col cols j)) (reindex (col cols) e)) (spread row (recipe_of names d items))
     recipe-entry f span j here v reduced e entry items a gives =
         let y : Poly = spread row (recipe_of names d items) in
-        let s : InSpan p Named row y = record { items = recipe_of names d items; named = recipe-named Named names d named items a; gives = poly_alike (itself y) } in
+        let s : InNamedSpan p Named row y = record { items = recipe_of names d items; named = recipe-named Named names d named items a; gives = poly_alike (itself y) } in
         entry-element f span j here v reduced e entry y s
         (λ i. back (record { same = gives i }) ⊙ recipe-vector items i a ⊙ same (sym (vector-spread cols row (recipe_of names d items) i)))
 
     -- Where the origins' rows span all rows, their vectors have the span of the block: so the reduced form of the
     -- origins is that of the block.
-    pub origins-have-span : ((k i : ℕ) → length names ≤ k → IsSameMod p (origins k i) 0) → ((n : N) → Named n → InSpan p (Contains names) row (row n)) → HaveSpan p Named row cols origins
+    pub origins-have-span : ((k i : ℕ) → length names ≤ k → IsSameMod p (origins k i) 0) → ((n : N) → Named n → InNamedSpan p (Contains names) row (row n)) → HaveSpan p Named row cols origins
     origins-have-span past spans =
         let family : HaveSpan p (Contains names) row cols origins = rows-have-span p (Contains names) row cols names d origins (contains-each names) (λ k c. c) rows past in
         record {
@@ -77,5 +77,5 @@ module _ {N : Type 0} (p : ℕ) (pos : 0 < p) (Named : N → Type 0) (row : N �
           from = λ n h. element-vector p (Contains names) row Column cols are origins family (λ x r. columns x (wider x r)) (row n) (spans n h);
         }
       where
-        wider : (x : Poly) → InSpan p (Contains names) row x → InSpan p Named row x
+        wider : (x : Poly) → InNamedSpan p (Contains names) row x → InNamedSpan p Named row x
         wider x r = record { items = r.items; named = each-from _ _ r.items (λ t c. contained Named names named t.1 c) r.named; gives = r.gives }

@@ -14,11 +14,8 @@ use Rattle.alb_poly.proofs.Consequence.{poly_alike}
 use Rattle.alb_rows.specs.Span.{IsPivot}
 use Rattle.alb_reduce.specs.Reduction.{Reduction, kept, IsRecipe}
 use Rattle.alb_table.specs.Columns.{col}
-use Rattle.alb_table.specs.Entry.{products}
-use Rattle.alb_table.specs.Grid.{same_pair}
-use Rattle.alb_table.specs.PartView.{type_at, mono_at, origins_at}
-use Rattle.alb_table.specs.RightFor.{RulesView, IsRightFor}
-use Rattle.alb_table.specs.Table.{Table}
+use Rattle.alb_table.specs.Table.{products, same_pair, type_at, mono_at, origins_at, Table}
+use Rattle.alb_table.specs.RightTable.{RulesView, IsRightFor}
 use Rattle.alb_table.proofs.RangeLemmas.{product_in, number_in_range}
 use Rattle.alb_table.proofs.TableLemmas.{type_shape, types_ascend}
 use Rattle.alb_mono.proofs.TypeLemmas.{length-type_plus}

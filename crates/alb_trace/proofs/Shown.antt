@@ -6,8 +6,7 @@ use Rattle.gf_field.proofs.Table.{IsPrime-from_table}
 use Rattle.alb_mono.specs.Listing.{Each}
 use Rattle.alb_mono.specs.Tree.{Tree}
 use Rattle.alb_poly.specs.Poly.{Poly, greatest_degree}
-use Rattle.alb_poly.specs.Instance.{Form}
-use Rattle.alb_poly.specs.Identity.{IsAtMost}
+use Rattle.alb_poly.specs.Instance.{Form, IsAtMost}
 use Rattle.alb_poly.specs.Consequence.{IsConsequence, AreMultilinear}
 use Rattle.alb_poly.proofs.AtMost.{IsWithin-terms}
 use Rattle.alb_poly.proofs.Consequence.{poly_alike}
@@ -21,8 +20,7 @@ use Rattle.alb_check.proofs.FirstPart.{sub-found}
 use Rattle.alb_check.proofs.FitLemmas.{shaped-fit}
 use Rattle.alb_check.proofs.SubRefutes.{sub-refutes}
 use Rattle.alb_check.proofs.SubShape.{sub-raw}
-use Rattle.alb_table.specs.Leading.{IsZeroAt}
-use Rattle.alb_table.specs.Right.{AreHigh, IsTypeTo, IsWithin, IsBasisTo, poly_value}
+use Rattle.alb_table.specs.Right.{IsZeroAt, AreHigh, IsTypeTo, IsWithinDegree, IsBasisTo, poly_value}
 use Rattle.alb_table.specs.RightTable.{IsRightTable, basis_monos, mono_entry}
 use Rattle.alb_table.specs.Table.{Table, IsTable}
 use Rattle.alb_table.proofs.Congruent.{congruent-joined, congruent-turned}
@@ -50,22 +48,22 @@ module _ (fs : List Form) (t : Table) (multi : AreMultilinear fs) (high : AreHig
   pub pos : 0 < t.p
   pos = let b = (IsPrime-from_table t.p tab.field).above_one in omega arith
 
-  pub table : bases.IsTable t.p fs (IsWithin t.target t.degree) (IsBasisTo t.p fs t.target t.degree) (mono_entry t.parts)
+  pub table : bases.IsTable t.p fs (IsWithinDegree t.target t.degree) (IsBasisTo t.p fs t.target t.degree) (mono_entry t.parts)
   table = right-table t.p pos fs multi high t.target t.degree (basis_monos t.parts) (mono_entry t.parts) right.right
 
   -- the normal form is the value by the entries
-  pub value-normal_form : (g f : Poly) → Each (λ s. IsWithin t.target t.degree s.1) g → IsNormalForm t.p fs g f → Alike t.p (poly_value (mono_entry t.parts) g) f
+  pub value-normal_form : (g f : Poly) → Each (λ s. IsWithinDegree t.target t.degree s.1) g → IsNormalForm t.p fs g f → Alike t.p (poly_value (mono_entry t.parts) g) f
   value-normal_form g f within is =
       normal-unique t.p pos fs multi (poly_value (mono_entry t.parts) g) f
       (each-from _ _ (poly_value (mono_entry t.parts) g) (λ s k. k.normal)
-      (poly-value-basis t.p pos fs (IsWithin t.target t.degree) (IsBasisTo t.p fs t.target t.degree) (mono_entry t.parts) table g within))
+      (poly-value-basis t.p pos fs (IsWithinDegree t.target t.degree) (IsBasisTo t.p fs t.target t.degree) (mono_entry t.parts) table g within))
       is.normal
       (congruent-joined t.p fs pos
-      (congruent-turned t.p fs pos (poly-value-congruent t.p pos fs (IsWithin t.target t.degree) (IsBasisTo t.p fs t.target t.degree) (mono_entry t.parts) table g within))
+      (congruent-turned t.p fs pos (poly-value-congruent t.p pos fs (IsWithinDegree t.target t.degree) (IsBasisTo t.p fs t.target t.degree) (mono_entry t.parts) table g within))
       is.congruent)
 
   -- the table up to the first type of the normal form is a counterexample
-  pub counter-table : (g f : Poly) (top : List ℕ) → Each (λ s. IsWithin t.target t.degree s.1) g → IsNormalForm t.p fs g f → IsTypeTo t.target t.degree top → IsFirstType t.p top f
+  pub counter-table : (g f : Poly) (top : List ℕ) → Each (λ s. IsWithinDegree t.target t.degree s.1) g → IsNormalForm t.p fs g f → IsTypeTo t.target t.degree top → IsFirstType t.p top f
       → IsCounterTable fs t g f (sub_table t top)
   counter-table g f top within is ty first =
       let raw = sub-raw t top tab ty.counts in
@@ -80,10 +78,10 @@ module _ (fs : List Form) (t : Table) (multi : AreMultilinear fs) (high : AreHig
         refutes = refutes;
       }
 
-  counter-found : (g f : Poly) → Each (λ s. IsWithin t.target t.degree s.1) g → (IsConsequence t.p fs g → ⊥) → IsNormalForm t.p fs g f → (s : Shown) × Shows fs t g (NotZero f) s
+  counter-found : (g f : Poly) → Each (λ s. IsWithinDegree t.target t.degree s.1) g → (IsConsequence t.p fs g → ⊥) → IsNormalForm t.p fs g f → (s : Shown) × Shows fs t g (NotZero f) s
   counter-found g f within none is =
       elim (sub-found t.p pos fs t.target t.degree (mono_entry t.parts) table g within) [
-        | inl z ↦ absurd (none (value-consequence t.p pos fs multi (IsWithin t.target t.degree) (mono_entry t.parts) table g within z))
+        | inl z ↦ absurd (none (value-consequence t.p pos fs multi (IsWithinDegree t.target t.degree) (mono_entry t.parts) table g within z))
         | inr m ↦ (
           ByTable (sub_table t m.0),
           counter-table g f m.0 within is m.1 (first-alike t.p m.0 (poly_value (mono_entry t.parts) g) f (value-normal_form g f within is) m.2),
@@ -91,14 +89,14 @@ module _ (fs : List Form) (t : Table) (multi : AreMultilinear fs) (high : AreHig
       ]
 
   -- within the target a consequence has a derivation
-  derivation-found : length fs < 10 ^ 18 → (g : Poly) → Each (λ s. IsWithin t.target t.degree s.1) g → IsConsequence t.p fs g → (s : Shown) × Shows fs t g Zero s
+  derivation-found : length fs < 10 ^ 18 → (g : Poly) → Each (λ s. IsWithinDegree t.target t.degree s.1) g → IsConsequence t.p fs g → (s : Shown) × Shows fs t g Zero s
   derivation-found few g within c =
-      let m : Each (λ s. IsAtMost t.target s.1) g = each-from (λ s. IsWithin t.target t.degree s.1) (λ s. IsAtMost t.target s.1) g
+      let m : Each (λ s. IsAtMost t.target s.1) g = each-from (λ s. IsWithinDegree t.target t.degree s.1) (λ s. IsAtMost t.target s.1) g
       (λ s k. record { below = below_from_test (length t.target) s.1 k.below; counts = k.type }) within in
       let d = limited-derivation t.p (IsPrime-from_table t.p tab.field) t.target fs multi tab.goal.small few g (IsWithin-terms t.p t.target g pos m) c in
       (ByLines d.lines, d.are)
 
-  shown-within : length fs < 10 ^ 18 → (g : Poly) (a : Answer) → Each (λ s. IsWithin t.target t.degree s.1) g → AnswersWithin t.p fs g a → (s : Shown) × Shows fs t g a s
+  shown-within : length fs < 10 ^ 18 → (g : Poly) (a : Answer) → Each (λ s. IsWithinDegree t.target t.degree s.1) g → AnswersWithin t.p fs g a → (s : Shown) × Shows fs t g a s
   shown-within few g Zero within is = derivation-found few g within is
   shown-within few g (NotZero f) within is = counter-found g f within is.0 is.1
   shown-within few g (NotBuilt n) within is = absurd is

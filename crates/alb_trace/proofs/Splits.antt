@@ -7,10 +7,10 @@ use Rattle.gf_sums.proofs.Totals.{weigh-append, weigh-scale, weigh-multiply, wei
 use Rattle.gf_sums.proofs.Alike.{Alike, equal, weigh-reindex}
 use Rattle.alb_mono.specs.Tree.{Tree, node}
 use Rattle.alb_mono.specs.declared.side.Side.TheVariants.{Left, Right}
-use Rattle.alb_poly.specs.Algebra.{unit}
-use Rattle.alb_poly.specs.Context.{beside}
+use Rattle.alb_poly.specs.Textbook.{unit}
+use Rattle.alb_poly.specs.Consequence.{beside}
 use Rattle.alb_poly.specs.Poly.{Poly}
-use Rattle.alb_table.specs.Leading.{difference, outer}
+use Rattle.alb_table.specs.Right.{difference, outer}
 use Rattle.alb_table.specs.Block.{spread}
 use Rattle.alb_table.proofs.Congruent.{minus_one, weigh-outer}
 use Rattle.alb_table.proofs.Spans.{weigh-spread}

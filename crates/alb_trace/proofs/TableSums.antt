@@ -8,17 +8,15 @@ use Rattle.alb_mono.specs.Tree.{Tree, node, count, listed, type_of, type_le, Are
 use Rattle.alb_mono.specs.declared.side.Side.{Side}
 use Rattle.alb_mono.specs.declared.side.Side.TheVariants.{Left, Right}
 use Rattle.alb_mono.proofs.Leaves.{below_from_test}
-use Rattle.alb_poly.specs.Algebra.{unit}
-use Rattle.alb_poly.specs.Context.{beside}
+use Rattle.alb_poly.specs.Textbook.{unit}
+use Rattle.alb_poly.specs.Consequence.{beside, form_at}
 use Rattle.alb_poly.specs.Poly.{Poly}
 use Rattle.alb_poly.specs.Instance.{Form, instance}
-use Rattle.alb_poly.specs.Consequence.{form_at}
 use Rattle.alb_poly.proofs.Multilinear.{each-from}
 use Rattle.alb_deriv.specs.Derivation.{Line, Instance, AreAllBelow}
 use Rattle.alb_deriv.specs.Short.{AreFine, IsSumOf}
 use Rattle.alb_deriv.proofs.Appended.{IsFitting, Appends, fitting-each, sum-alike, append-instance}
-use Rattle.alb_table.specs.Leading.{SameType, difference}
-use Rattle.alb_table.specs.Right.{mono_value, poly_value, IsWithin, IsTypeTo}
+use Rattle.alb_table.specs.Right.{SameType, difference, mono_value, poly_value, IsWithinDegree, IsTypeTo}
 use Rattle.alb_table.specs.Block.{spread, IsTupleAt}
 use Rattle.alb_table.proofs.Types.{type-itself, type-joined, type-node, type-listed}
 use Rattle.alb_table.proofs.Values.{each-scale}
@@ -42,7 +40,7 @@ fitting-types : (p : ℕ) → 0 < p → (most : ℕ) (target : List ℕ) (fs : L
 fitting-types p pos most target fs z f h a = fitting-each p pos most target fs f
     (each-from (λ t. SameType t.1 z) _ f (λ t s. subst (λ ts. IsTrue (type_le ts target)) (sym (type-listed (length target) t.1 z s)) h) a)
 
-module _ (p : ℕ) (pos : 0 < p) (most : ℕ) (target : List ℕ) (fs : List Form) (e : ℕ) (l r : Tree) (inside : IsWithin target e (node l r)) where
+module _ (p : ℕ) (pos : 0 < p) (most : ℕ) (target : List ℕ) (fs : List Form) (e : ℕ) (l r : Tree) (inside : IsWithinDegree target e (node l r)) where
   -- the monomials of the left factor less its parts, beside the right factor, are at most the target
   pub fits-right : (f : Poly) → Each (λ t. SameType t.1 l) f → IsFitting p target (reindex (beside (Right, r)) (difference p (unit l) f))
   fits-right f a =

@@ -1,22 +1,20 @@
 -- What a trace keeps while lines are added.
 use Rattle.std.proofs.Common.{◌≡◌, ℕ, ◌+◌, ◌<◌, ◌≤◌, List, [], ◌∷◌, ◌++◌, length, get_or, drop, add-one, append_assoc, map, sym, ap, ◌∙◌, subst, arith}
-use Rattle.std.specs.Prelude.{All}
+use Rattle.std.specs.Prelude.{All, IsTrue}
 use Rattle.std.proofs.lemmas.List.{map-append, length-map, length-append, append-nil, drop_all}
 use Rattle.std.proofs.Math.Seq.{drop-cons}
 use Rattle.std.proofs.lemmas.List.Elements.{All-append, All-cons}
 use Rattle.indexmap.specs.IndexMap.{get}
-use Rattle.alb_table.specs.Grid.{same_pair}
+use Rattle.alb_table.specs.Table.{same_pair, Table}
 use Rattle.gf_sums.proofs.Alike.{itself, joined}
 use Rattle.alb_deriv.proofs.Appended.{Appends, append-sum, append-times, one-line, none-beside, sum_of-append, sum-one, sum-append, sum-alike}
 use Rattle.alb_table.proofs.GeneratorLemmas.{above_one}
 use Rattle.alb_mono.specs.Listing.{Each}
-use Rattle.std.specs.Prelude.{IsTrue}
 use Rattle.gf_sums.specs.Sums.{reindex}
-use Rattle.alb_mono.specs.Mono.{tree}
-use Rattle.alb_mono.specs.Tree.{Tree, degree, are_below}
+use Rattle.alb_mono.specs.Tree.{tree, Tree, degree, are_below}
 use Rattle.alb_mono.specs.declared.side.Side.{Side}
 use Rattle.alb_mono.proofs.Leaves.{below_from_test}
-use Rattle.alb_poly.specs.Context.{beside}
+use Rattle.alb_poly.specs.Consequence.{beside}
 use Rattle.alb_poly.specs.Poly.{Poly}
 use Rattle.alb_poly.specs.Instance.{Form}
 use Rattle.alb_poly.proofs.Multilinear.{each-from}
@@ -27,7 +25,6 @@ use Rattle.alb_deriv.specs.Views.{line, IsLine}
 use Rattle.alb_deriv.specs.declared.line.Line.{Line}
 use Rattle.alb_deriv.specs.declared.line.Line.TheVariants.{Times}
 use Rattle.alb_mono.specs.declared.mono.Mono.{Mono}
-use Rattle.alb_table.specs.Table.{Table}
 use Rattle.alb_trace.specs.Adds.{item_of, IsLonger}
 use Rattle.alb_trace.specs.Given.{FitsTarget}
 use Rattle.alb_trace.specs.Origins.{IsOriginBlock}

@@ -2,7 +2,7 @@
 use Rattle.std.specs.Prelude.{List, All, length, map}
 use Rattle.alb_poly.specs.Poly.{Poly}
 use Rattle.alb_poly.specs.Instance.{Form}
-use Rattle.alb_deriv.specs.Limits.{IsLimitedDerivation}
+use Rattle.alb_deriv.specs.Derivation.{IsLimitedDerivation}
 use Rattle.alb_deriv.specs.Views.{line, IsLine}
 use Rattle.alb_deriv.specs.declared.line.Line.{Line}
 use Rattle.alb_table.specs.Table.{Table}

@@ -1,5 +1,5 @@
 -- What a derivation is made from, as contracts see it.
-use Rattle.alb_table.specs.RightFor.{rules_view, AreRules, IsRightFor}
+use Rattle.alb_table.specs.RightTable.{rules_view, AreRules, IsRightFor}
 use Rattle.alb_trace.specs.declared.ground.Ground.{Ground}
 
 -- the rules are accepted, and the table is right for them

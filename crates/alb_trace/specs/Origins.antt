@@ -6,12 +6,11 @@ use Rattle.alb_poly.specs.Consequence.{form_at}
 use Rattle.alb_poly.specs.Poly.{Poly}
 use Rattle.alb_rows.specs.Span.{SameSpan}
 use Rattle.alb_reduce.specs.Reduction.{Reduction, kept, offered, row_with}
-use Rattle.alb_table.specs.PartView.{type_at, origins_at, mono_at}
+use Rattle.alb_table.specs.Table.{type_at, origins_at, mono_at, Table}
 use Rattle.alb_table.specs.RightTable.{instance_at, mono_entry}
-use Rattle.alb_table.specs.Table.{Table}
 use Rattle.alb_table.specs.Block.{tuple_row}
 use Rattle.alb_block.specs.Asked.{setting_of}
-use Rattle.alb_block.specs.Instances.{Setting, columns_of}
+use Rattle.alb_block.specs.Instances.{BlockSetting, columns_of}
 use Rattle.alb_block.specs.Offers.{IsRowOf}
 
 -- the kept instance with a number
@@ -19,7 +18,7 @@ abbrev pub origin_at : List (ℕ × List ℕ) → ℕ → ℕ × List ℕ
 origin_at names k = slice_index_or names k (0, [])
 
 -- the rows of the first k instances were offered with their numbers, and the kept rows have their span
-pub record HasOffered (s : Setting) (r : Reduction) (names : List (ℕ × List ℕ)) (k : ℕ) : Type 0 where
+pub record HasOffered (s : BlockSetting) (r : Reduction) (names : List (ℕ × List ℕ)) (k : ℕ) : Type 0 where
   pub field : r.p ≡ s.p
   pub width : r.columns ≡ length (columns_of s.parts s.at)
   pub recipes : r.keeps_recipes ≡ true

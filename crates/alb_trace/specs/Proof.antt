@@ -2,14 +2,12 @@
 use Rattle.std.specs.Prelude.{◌≡◌, ℕ, List, length, map, All}
 use Rattle.alb_poly.specs.Poly.{Poly}
 use Rattle.alb_poly.specs.Instance.{Form}
-use Rattle.alb_deriv.specs.Derivation.{Line}
-use Rattle.alb_deriv.specs.Limits.{IsLimitedDerivation}
+use Rattle.alb_deriv.specs.Derivation.{Line, IsLimitedDerivation}
 use Rattle.alb_deriv.specs.Views.{line, IsLine}
-use Rattle.alb_check.specs.Raw.{Raw, raw, IsRaw}
-use Rattle.alb_check.specs.Limits.{IsTableFit}
+use Rattle.alb_check.specs.Raw.{Raw, raw, IsRaw, IsTableFit}
 use Rattle.alb_check.specs.SubTable.{sub_table, IsFirstType}
-use Rattle.alb_check.specs.Verdict.{IsVerdict}
-use Rattle.alb_check.specs.Verdict.Verdict.{Refuted}
+use Rattle.alb_check.specs.Verdict.{IsTableVerdict}
+use Rattle.alb_check.specs.Verdict.TableVerdict.{Refuted}
 use Rattle.alb_table.specs.Table.{Table}
 use Rattle.alb_table.specs.Right.{IsTypeTo}
 use Rattle.alb_query.specs.Answer.{Answer, Zero, NotZero, NotBuilt, OutOfType}
@@ -37,7 +35,7 @@ pub record IsCounterTable (fs : List Form) (t : Table) (g f : Poly) (r : Raw) : 
   pub is : r ≡ sub_table t top
   pub over : IsRaw t.p (length t.target) r
   pub fit : IsTableFit t.p (length t.target) r
-  pub refutes : IsVerdict t.p t.target fs r g Refuted
+  pub refutes : IsTableVerdict t.p t.target fs r g Refuted
 
 -- WHAT SHOWS AN ANSWER to `g` by a right table: a derivation within the limits of its text; a table that refutes it; nothing where
 -- there is nothing to show

@@ -3,8 +3,7 @@ use Rattle.std.specs.Prelude.{◌≡◌, ℕ, ◌<◌, List, length, slice_index
 use Rattle.gf_sums.specs.Sums.{Comb}
 use Rattle.alb_poly.specs.Instance.{Form}
 use Rattle.alb_poly.specs.Poly.{IsSamePoly}
-use Rattle.alb_table.specs.PartView.{elems, origins_at}
-use Rattle.alb_table.specs.Table.{Table}
+use Rattle.alb_table.specs.Table.{elems, origins_at, Table}
 use Rattle.alb_table.specs.Block.{spread}
 use Rattle.alb_trace.specs.Given.{IsProductType}
 use Rattle.alb_trace.specs.Origins.{product_type, origin_row}

@@ -2,21 +2,17 @@
 use Rattle.std.specs.Prelude.{◌≡◌, ℕ, ◌<◌, List, ◌++◌, Some, All, length, map}
 use Rattle.indexmap.specs.IndexMap.{get}
 use Rattle.alb_mono.specs.Listing.{Each}
-use Rattle.alb_mono.specs.Mono.{tree}
-use Rattle.alb_mono.specs.Tree.{Tree, leaf, node}
-use Rattle.alb_poly.specs.Algebra.{unit}
+use Rattle.alb_mono.specs.Tree.{tree, Tree, leaf, node}
+use Rattle.alb_poly.specs.Textbook.{unit}
 use Rattle.alb_poly.specs.Poly.{Poly}
 use Rattle.alb_poly.specs.Instance.{Form}
 use Rattle.alb_deriv.specs.Derivation.{Line}
 use Rattle.alb_deriv.specs.Short.{AreFine, IsSumOf}
 use Rattle.alb_deriv.specs.Views.{line, IsLine}
-use Rattle.alb_table.specs.Grid.{same_pair}
+use Rattle.alb_table.specs.Table.{same_pair, mono_at, Table, IsTable}
 use Rattle.alb_table.specs.Block.{image}
-use Rattle.alb_table.specs.Leading.{difference}
-use Rattle.alb_table.specs.PartView.{mono_at}
-use Rattle.alb_table.specs.Right.{mono_value}
+use Rattle.alb_table.specs.Right.{difference, mono_value}
 use Rattle.alb_table.specs.RightTable.{mono_entry}
-use Rattle.alb_table.specs.Table.{Table, IsTable}
 use Rattle.alb_trace.specs.Adds.{item_of, IsLonger, Adds}
 use Rattle.alb_trace.specs.Origins.{IsOriginBlock}
 use Rattle.alb_trace.specs.declared.trace.Citation.{Citation}
@@ -70,7 +66,7 @@ pub record Carries (fs : List Form) (t : Table) (old new : Trace) (part rest : L
   pub sum : IsSumOf t.p fs (lines_of new) (part ++ rest) f
 
 -- the items of a sum have become others, with further lines, so that the polynomial `f` has been added to the sum
-pub record Pushes (fs : List Form) (t : Table) (old new : Trace) (before after : List (ℕ × ℕ)) (f : Poly) : Type 0 where
+pub record PushesItems (fs : List Form) (t : Table) (old new : Trace) (before after : List (ℕ × ℕ)) (f : Poly) : Type 0 where
   pub trace : IsTrace fs t new
   pub longer : IsLonger (lines_of old) (lines_of new)
   pub residues : All (λ c. c.0 < t.p) before → All (λ c. c.0 < t.p) after

@@ -1,19 +1,18 @@
 //! The derivations that are asked for, each from an empty trace.
 ghost use Rattle.std.specs.Prelude.{◌≡◌, ◌<◌, ◌^◌, All, IfOk, List, OnOk, length};
-ghost use Rattle.alb_mono.specs.Mono.{tree};
+ghost use Rattle.alb_mono.specs.Tree.{tree};
 ghost use Rattle.alb_poly.specs.Instance.{Form};
 ghost use Rattle.alb_poly.specs.Poly.{Poly, AreResidues};
-ghost use Rattle.alb_poly.specs.Rules.{forms};
+ghost use Rattle.alb_poly.specs.Consequence.{forms};
 ghost use Rattle.alb_table.specs.Block.{spread};
-ghost use Rattle.alb_table.specs.PartView.{elems};
-ghost use Rattle.alb_table.specs.Right.{IsWithin};
-ghost use Rattle.alb_table.specs.RightFor.{rules_view, AreRules, IsRightFor};
-ghost use Rattle.alb_table.specs.Table.{Table, CoversType};
+ghost use Rattle.alb_table.specs.Table.{elems, Table, CoversType};
+ghost use Rattle.alb_table.specs.Right.{IsWithinDegree};
+ghost use Rattle.alb_table.specs.RightTable.{rules_view, AreRules, IsRightFor};
 ghost use Rattle.alb_query.specs.Answer.{Zero, IsAnswer};
 ghost use Rattle.alb_trace.specs.Answer.{AreLinesFor};
 ghost use Rattle.alb_trace.specs.Ground.{IsGround};
 ghost use Rattle.alb_trace.specs.Origins.{product_type};
-ghost use Rattle.alb_trace.specs.Trace.{product_less, mono_less, IsTrace, Derives, Pushes};
+ghost use Rattle.alb_trace.specs.Trace.{product_less, mono_less, IsTrace, Derives, PushesItems};
 ghost use Rattle.alb_trace.specs.declared.trace.Trace.{Trace};
 
 use crate::ground::Ground;
@@ -45,8 +44,8 @@ impl Trace {
         requires ground { IsGround ground.now }
         requires trace { IsTrace (forms ground.now.rules.now) ground.now.tables.now self.old }
         requires residues { AreResidues ground.now.tables.now.p g.now }
-        requires within { All (λ s. IsWithin ground.now.tables.now.target ground.now.tables.now.degree s.1) g.now }
-        ensures { OnOk result (Pushes (forms ground.now.rules.now) ground.now.tables.now self.old self.new sum.old.items.items sum.new.items.items
+        requires within { All (λ s. IsWithinDegree ground.now.tables.now.target ground.now.tables.now.degree s.1) g.now }
+        ensures { OnOk result (PushesItems (forms ground.now.rules.now) ground.now.tables.now self.old self.new sum.old.items.items sum.new.items.items
             (spread (mono_less ground.now.tables.now) g.now)) }
     {
         for term in g.terms() {
@@ -108,7 +107,7 @@ pub fn derive_monomial(
 ) -> Result<Vec<Line>, NoMemory>
     requires rules { AreRules (rules_view rules.now) }
     requires right { IsRightFor (rules_view rules.now) tables.now }
-    requires within { IsWithin tables.now.target tables.now.degree (tree m.now) }
+    requires within { IsWithinDegree tables.now.target tables.now.degree (tree m.now) }
     ensures { IfOk result (λ v. AreLinesFor (forms rules.now) tables.now (mono_less tables.now (tree m.now)) v.items) }
 {
     let ground = Ground {

@@ -1,21 +1,19 @@
 //! Products of what was derived with monomials.
 ghost use Rattle.std.specs.Prelude.{◌<◌, ◌≤◌, List, IfOk, IsTrue, OnOk, length};
 ghost use Rattle.gf_sums.specs.Sums.{Comb, reindex, scale};
-ghost use Rattle.alb_mono.specs.Mono.{tree};
-ghost use Rattle.alb_mono.specs.Tree.{Tree, degree, node, are_below};
+ghost use Rattle.alb_mono.specs.Tree.{tree, Tree, degree, node, are_below};
 ghost use Rattle.alb_mono.specs.declared.side.Side.TheVariants.{Left};
-ghost use Rattle.alb_poly.specs.Context.{beside};
+ghost use Rattle.alb_poly.specs.Consequence.{beside, forms};
 ghost use Rattle.alb_poly.specs.Instance.{Form};
-ghost use Rattle.alb_poly.specs.Rules.{forms};
 ghost use Rattle.alb_deriv.specs.Short.{IsSumOf};
 ghost use Rattle.alb_table.specs.Block.{spread};
-ghost use Rattle.alb_table.specs.Right.{mono_value, IsWithin};
+ghost use Rattle.alb_table.specs.Right.{mono_value, IsWithinDegree};
 ghost use Rattle.alb_table.specs.RightTable.{mono_entry};
 ghost use Rattle.alb_table.specs.Table.{Table};
 ghost use Rattle.alb_trace.specs.Adds.{item_of};
 ghost use Rattle.alb_trace.specs.Given.{FitsTarget};
 ghost use Rattle.alb_trace.specs.Ground.{IsGround};
-ghost use Rattle.alb_trace.specs.Trace.{lines_of, mono_less, IsTrace, Derives, Pushes};
+ghost use Rattle.alb_trace.specs.Trace.{lines_of, mono_less, IsTrace, Derives, PushesItems};
 
 use crate::ground::Ground;
 use crate::sums::SumBuilder;
@@ -61,10 +59,10 @@ impl Trace {
         requires ground { IsGround ground.now }
         requires trace { IsTrace (forms ground.now.rules.now) ground.now.tables.now self.old }
         requires residue { c < ground.now.tables.now.p }
-        requires within { IsWithin ground.now.tables.now.target ground.now.tables.now.degree (tree l.now) }
-        ensures { (r : Tree) → IsWithin ground.now.tables.now.target ground.now.tables.now.degree (node (tree l.now) r)
+        requires within { IsWithinDegree ground.now.tables.now.target ground.now.tables.now.degree (tree l.now) }
+        ensures { (r : Tree) → IsWithinDegree ground.now.tables.now.target ground.now.tables.now.degree (node (tree l.now) r)
             → IsSumOf ground.now.tables.now.p (forms ground.now.rules.now) (lines_of self.old) (item_of cited) (mono_less ground.now.tables.now r)
-            → OnOk result (Pushes (forms ground.now.rules.now) ground.now.tables.now self.old self.new sum.old.items.items sum.new.items.items
+            → OnOk result (PushesItems (forms ground.now.rules.now) ground.now.tables.now self.old self.new sum.old.items.items sum.new.items.items
             (scale c (spread (λ b. reindex (beside (Left, b)) (mono_less ground.now.tables.now r)) (mono_value (mono_entry ground.now.tables.now.parts) (tree l.now))))) }
     {
         let field = ground.tables.field();

@@ -1,7 +1,6 @@
 //! The first type of the monomials of a polynomial.
 ghost use Rattle.std.specs.Prelude.{◌≡◌, ◌≤◌, All, IfSome, IsTrue, length};
-ghost use Rattle.alb_mono.specs.Mono.{tree};
-ghost use Rattle.alb_mono.specs.Tree.{are_below};
+ghost use Rattle.alb_mono.specs.Tree.{tree, are_below};
 ghost use Rattle.alb_poly.specs.Terms.{terms};
 ghost use Rattle.alb_trace.specs.FirstType.{HasFirst, earlier, or_earlier};
 

@@ -1,9 +1,9 @@
 //! What a derivation is made from.
 ghost use Rattle.std.specs.Prelude.{◌≡◌, ◌<◌, All, IfOk, length, map};
-ghost use Rattle.alb_mono.specs.Mono.{tree};
-ghost use Rattle.alb_poly.specs.Rules.{forms};
-ghost use Rattle.alb_table.specs.PartView.{elems, mono_at};
-ghost use Rattle.alb_table.specs.Right.{IsWithin};
+ghost use Rattle.alb_mono.specs.Tree.{tree};
+ghost use Rattle.alb_poly.specs.Consequence.{forms};
+ghost use Rattle.alb_table.specs.Table.{elems, mono_at};
+ghost use Rattle.alb_table.specs.Right.{IsWithinDegree};
 ghost use Rattle.alb_trace.specs.Given.{IsValueRow};
 ghost use Rattle.alb_trace.specs.Ground.{IsGround};
 
@@ -25,7 +25,7 @@ impl Ground<'_> {
     // The value of a monomial, as a row over basis elements.
     pub(crate) fn value(&self, m: &Mono) -> Result<Row, NoMemory>
         requires ground { IsGround self.now }
-        requires within { IsWithin self.now.tables.now.target self.now.tables.now.degree (tree m.now) }
+        requires within { IsWithinDegree self.now.tables.now.target self.now.tables.now.degree (tree m.now) }
         ensures { IfOk result (λ r. IsValueRow (forms self.now.rules.now) self.now.tables.now (tree m.now) r) }
     {
         prove!(self.tables.field().p() > 1);

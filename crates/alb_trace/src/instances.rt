@@ -1,14 +1,13 @@
 //! The kept instances as lines.
 ghost use Rattle.std.specs.Prelude.{◌≡◌, ◌<◌, IfOk, OnOk, length};
 ghost use Rattle.gf_sums.specs.Sums.{scale};
-ghost use Rattle.alb_poly.specs.Normal.{normal};
-ghost use Rattle.alb_poly.specs.Poly.{AreResidues};
-ghost use Rattle.alb_poly.specs.Rules.{forms};
-ghost use Rattle.alb_table.specs.PartView.{origins_at};
+ghost use Rattle.alb_poly.specs.Poly.{normal, AreResidues};
+ghost use Rattle.alb_poly.specs.Consequence.{forms};
+ghost use Rattle.alb_table.specs.Table.{origins_at};
 ghost use Rattle.alb_trace.specs.Given.{IsProductType};
 ghost use Rattle.alb_trace.specs.Ground.{IsGround};
 ghost use Rattle.alb_trace.specs.Origins.{origin_instance};
-ghost use Rattle.alb_trace.specs.Trace.{IsTrace, Pushes};
+ghost use Rattle.alb_trace.specs.Trace.{IsTrace, PushesItems};
 
 use crate::ground::Ground;
 use crate::sums::SumBuilder;
@@ -34,7 +33,7 @@ impl Trace {
         requires residue { c < ground.now.tables.now.p }
         requires product { IsProductType ground.now.tables.now t.now }
         requires kept { k < length (origins_at ground.now.tables.now.parts t.now) }
-        ensures pushes { OnOk result (Pushes (forms ground.now.rules.now) ground.now.tables.now self.old self.new sum.old.items.items sum.new.items.items
+        ensures pushes { OnOk result (PushesItems (forms ground.now.rules.now) ground.now.tables.now self.old self.new sum.old.items.items sum.new.items.items
             (scale c (origin_instance (forms ground.now.rules.now) ground.now.tables.now t.now k))) }
         ensures value { IfOk result (λ g. g ≡ normal ground.now.tables.now.p (origin_instance (forms ground.now.rules.now) ground.now.tables.now t.now k)) }
         ensures residues { IfOk result (λ g. AreResidues ground.now.tables.now.p g) }

@@ -1,9 +1,9 @@
 //! The rows of the kept instances of a type, reduced with recipes.
 ghost use Rattle.std.specs.Prelude.{◌≡◌, ◌<◌, [], IfOk, MatchOption, OnOk, length};
 ghost use Rattle.alb_poly.specs.Poly.{IsSamePoly};
-ghost use Rattle.alb_poly.specs.Rules.{forms};
-ghost use Rattle.alb_table.specs.PartView.{origins_at};
-ghost use Rattle.alb_block.specs.Asked.{setting};
+ghost use Rattle.alb_poly.specs.Consequence.{forms};
+ghost use Rattle.alb_table.specs.Table.{origins_at};
+ghost use Rattle.alb_block.specs.Asked.{block_setting};
 ghost use Rattle.alb_block.specs.Instances.{columns_of};
 ghost use Rattle.alb_trace.specs.Given.{IsProductType};
 ghost use Rattle.alb_trace.specs.Ground.{IsGround};
@@ -69,7 +69,7 @@ impl Ground<'_> {
         requires ground { IsGround self.now }
         requires product { IsProductType self.now.tables.now t.now }
         requires columns_are { columns.now ≡ columns_of self.now.tables.now.parts t.now }
-        ensures { IfOk result (λ r. HasOffered (setting self.now.rules.now self.now.tables.now t.now) r
+        ensures { IfOk result (λ r. HasOffered (block_setting self.now.rules.now self.now.tables.now t.now) r
             (origins_at self.now.tables.now.parts t.now) (length (origins_at self.now.tables.now.parts t.now))) }
     {
         let origins = self.tables.origins(t);

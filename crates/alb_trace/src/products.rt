@@ -2,18 +2,17 @@
 //! degree.
 ghost use Rattle.std.specs.Prelude.{◌≤◌, ◌<◌, ◌-◌, All, IfOk, OnOk, length};
 ghost use Rattle.gf_sums.specs.Sums.{scale};
-ghost use Rattle.alb_mono.specs.Mono.{tree};
-ghost use Rattle.alb_mono.specs.Tree.{degree, node};
-ghost use Rattle.alb_poly.specs.Rules.{forms};
+ghost use Rattle.alb_mono.specs.Tree.{tree, degree, node};
+ghost use Rattle.alb_poly.specs.Consequence.{forms};
 ghost use Rattle.alb_rows.specs.Row.{comb};
 ghost use Rattle.alb_table.specs.Block.{spread};
-ghost use Rattle.alb_table.specs.PartView.{origins_at};
-ghost use Rattle.alb_table.specs.Right.{IsWithin};
+ghost use Rattle.alb_table.specs.Table.{origins_at};
+ghost use Rattle.alb_table.specs.Right.{IsWithinDegree};
 ghost use Rattle.alb_trace.specs.Given.{IsProductType, IsValueRow};
 ghost use Rattle.alb_trace.specs.Ground.{IsGround};
 ghost use Rattle.alb_trace.specs.Origins.{origin_row};
 ghost use Rattle.alb_trace.specs.Recipes.{IsProduct, IsRecipeFor};
-ghost use Rattle.alb_trace.specs.Trace.{product_less, mono_less, image_less, entries_less, IsTrace, Derives, Pushes};
+ghost use Rattle.alb_trace.specs.Trace.{product_less, mono_less, image_less, entries_less, IsTrace, Derives, PushesItems};
 
 use crate::ground::Ground;
 use crate::sums::SumBuilder;
@@ -28,7 +27,7 @@ impl Trace {
     pub(crate) fn monomial_line(&mut self, ground: &Ground, m: &Mono) -> Result<Citation, NoMemory>
         requires ground { IsGround ground.now }
         requires trace { IsTrace (forms ground.now.rules.now) ground.now.tables.now self.old }
-        requires within { IsWithin ground.now.tables.now.target ground.now.tables.now.degree (tree m.now) }
+        requires within { IsWithinDegree ground.now.tables.now.target ground.now.tables.now.degree (tree m.now) }
         ensures { IfOk result (λ o. Derives (forms ground.now.rules.now) ground.now.tables.now self.old self.new o (mono_less ground.now.tables.now (tree m.now))) }
     {
         if let Some(cited) = self.known_monomial(m) {
@@ -61,8 +60,8 @@ impl Trace {
         requires ground { IsGround ground.now }
         requires trace { IsTrace (forms ground.now.rules.now) ground.now.tables.now self.old }
         requires residue { c < ground.now.tables.now.p }
-        requires within { IsWithin ground.now.tables.now.target ground.now.tables.now.degree (node (tree l.now) (tree r.now)) }
-        ensures { OnOk result (Pushes (forms ground.now.rules.now) ground.now.tables.now self.old self.new sum.old.items.items sum.new.items.items
+        requires within { IsWithinDegree ground.now.tables.now.target ground.now.tables.now.degree (node (tree l.now) (tree r.now)) }
+        ensures { OnOk result (PushesItems (forms ground.now.rules.now) ground.now.tables.now self.old self.new sum.old.items.items sum.new.items.items
             (scale c (image_less ground.now.tables.now (node (tree l.now) (tree r.now))))) }
     {
         let left = self.monomial_line(ground, l)?;
@@ -83,8 +82,8 @@ impl Trace {
     ) -> Result<(), NoMemory>
         requires ground { IsGround ground.now }
         requires trace { IsTrace (forms ground.now.rules.now) ground.now.tables.now self.old }
-        requires within { IsWithin ground.now.tables.now.target ground.now.tables.now.degree (node (tree l.now) (tree r.now)) }
-        ensures { OnOk result (Pushes (forms ground.now.rules.now) ground.now.tables.now self.old self.new sum.old.items.items sum.new.items.items
+        requires within { IsWithinDegree ground.now.tables.now.target ground.now.tables.now.degree (node (tree l.now) (tree r.now)) }
+        ensures { OnOk result (PushesItems (forms ground.now.rules.now) ground.now.tables.now self.old self.new sum.old.items.items sum.new.items.items
             (entries_less ground.now.tables.now (node (tree l.now) (tree r.now)))) }
     {
         let left = ground.value(l)?;
@@ -112,7 +111,7 @@ impl Trace {
         requires residue { part.1 < ground.now.tables.now.p }
         requires value { IsValueRow (forms ground.now.rules.now) ground.now.tables.now (tree r.now) right.now }
         requires products { All (λ cell. IsProduct ground.now.tables.now (part.0, cell.0)) right.now }
-        ensures { OnOk result (Pushes (forms ground.now.rules.now) ground.now.tables.now self.old self.new sum.old.items.items sum.new.items.items
+        ensures { OnOk result (PushesItems (forms ground.now.rules.now) ground.now.tables.now self.old self.new sum.old.items.items sum.new.items.items
             (scale part.1 (spread (λ c. product_less ground.now.tables.now (part.0, c)) (comb right.now)))) }
     {
         let field = ground.tables.field();
@@ -163,7 +162,7 @@ impl Trace {
         requires trace { IsTrace (forms ground.now.rules.now) ground.now.tables.now self.old }
         requires product { IsProduct ground.now.tables.now (b, c) }
         requires recipe { IsRecipeFor (forms ground.now.rules.now) ground.now.tables.now (b, c) found.now }
-        ensures { OnOk result (Pushes (forms ground.now.rules.now) ground.now.tables.now self.old self.new sum.old.items.items sum.new.items.items
+        ensures { OnOk result (PushesItems (forms ground.now.rules.now) ground.now.tables.now self.old self.new sum.old.items.items sum.new.items.items
             (product_less ground.now.tables.now (b, c))) }
     {
         let t = ground.tables.type_at(b).plus(ground.tables.type_at(c));
@@ -188,7 +187,7 @@ impl Trace {
         requires residue { c < ground.now.tables.now.p }
         requires product { IsProductType ground.now.tables.now t.now }
         requires kept { k < length (origins_at ground.now.tables.now.parts t.now) }
-        ensures { OnOk result (Pushes (forms ground.now.rules.now) ground.now.tables.now self.old self.new sum.old.items.items sum.new.items.items
+        ensures { OnOk result (PushesItems (forms ground.now.rules.now) ground.now.tables.now self.old self.new sum.old.items.items sum.new.items.items
             (scale c (origin_row (forms ground.now.rules.now) ground.now.tables.now t.now k))) }
     {
         let value = self.add_origin_instance(ground, sum, c, t, k)?;
@@ -211,9 +210,9 @@ impl Trace {
         requires trace { IsTrace (forms ground.now.rules.now) ground.now.tables.now self.old }
         requires residue { c < ground.now.tables.now.p }
         requires coefficient { term.now.coef < ground.now.tables.now.p }
-        requires within { IsWithin ground.now.tables.now.target ground.now.tables.now.degree (tree term.now.mono) }
+        requires within { IsWithinDegree ground.now.tables.now.target ground.now.tables.now.degree (tree term.now.mono) }
         requires big { 2 ≤ degree (tree term.now.mono) }
-        ensures { OnOk result (Pushes (forms ground.now.rules.now) ground.now.tables.now self.old self.new sum.old.items.items sum.new.items.items
+        ensures { OnOk result (PushesItems (forms ground.now.rules.now) ground.now.tables.now self.old self.new sum.old.items.items sum.new.items.items
             (scale (ground.now.tables.now.p - 1) (scale c (scale term.now.coef (image_less ground.now.tables.now (tree term.now.mono)))))) }
     {
         let field = ground.tables.field();

@@ -1,9 +1,9 @@
 ghost use Rattle.std.specs.Prelude.{◌<◌, All, IfOk, IsTrue, length};
 ghost use Rattle.alb_mono.specs.Tree.{are_below};
 ghost use Rattle.alb_poly.specs.Poly.{AreResidues};
-ghost use Rattle.alb_poly.specs.Rules.{forms};
+ghost use Rattle.alb_poly.specs.Consequence.{forms};
 ghost use Rattle.alb_check.specs.Raw.{raw};
-ghost use Rattle.alb_table.specs.RightFor.{rules_view, AreRules, IsRightFor};
+ghost use Rattle.alb_table.specs.RightTable.{rules_view, AreRules, IsRightFor};
 ghost use Rattle.alb_query.specs.Answer.{IsAnswer, IsOver, NotZero};
 ghost use Rattle.alb_query.specs.Views.{answer_of};
 ghost use Rattle.alb_trace.specs.Proof.{Shows, IsCounterTable, shown, CanBePrinted};

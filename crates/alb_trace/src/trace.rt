@@ -1,11 +1,10 @@
 //! What was derived so far.
 ghost use Rattle.std.specs.Prelude.{◌≡◌, List, OnOk, IfSome};
 ghost use Rattle.indexmap.specs.IndexMap.{get};
-ghost use Rattle.alb_mono.specs.Mono.{tree};
+ghost use Rattle.alb_mono.specs.Tree.{tree};
 ghost use Rattle.alb_poly.specs.Instance.{Form};
 ghost use Rattle.alb_deriv.specs.Short.{IsSumOf};
-ghost use Rattle.alb_table.specs.Grid.{same_pair};
-ghost use Rattle.alb_table.specs.Table.{Table, IsTable};
+ghost use Rattle.alb_table.specs.Table.{same_pair, Table, IsTable};
 ghost use Rattle.alb_trace.specs.Adds.{item_of};
 ghost use Rattle.alb_trace.specs.Trace.{lines_of, product_less, mono_less, IsTrace, Derives};
 ghost use Rattle.alb_trace.specs.declared.trace.Trace.{Trace};

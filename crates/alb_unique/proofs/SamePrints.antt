@@ -5,17 +5,14 @@ use Rattle.std.specs.List.{flat_map}
 use Rattle.std.proofs.lemmas.List.{append-nil}
 use Rattle.gf_sums.specs.Sums.{Comb, reindex}
 use Rattle.alb_mono.specs.Listing.{Each, IsIn}
-use Rattle.alb_mono.specs.Tree.{node, type_plus}
-use Rattle.alb_mono.specs.Types.{rising, types_of}
+use Rattle.alb_mono.specs.Tree.{node, type_plus, rising, types_of}
 use Rattle.alb_print.specs.Text.{named, type_text, mono_text, poly_text}
 use Rattle.alb_poly.specs.Instance.{Form}
 use Rattle.alb_poly.specs.Consequence.{AreMultilinear}
 use Rattle.alb_rows.specs.Row.{Cells, comb, ColumnsBelow}
-use Rattle.alb_table.specs.Entry.{products, entry_of, table_product}
-use Rattle.alb_table.specs.PartView.{PartView, elems, type_at, mono_at}
+use Rattle.alb_table.specs.Table.{products, entry_of, table_product, PartView, elems, type_at, mono_at, Table, IsTable, CoversType, count_products}
 use Rattle.alb_table.specs.Right.{AreHigh, IsRight}
 use Rattle.alb_table.specs.RightTable.{basis_monos, mono_entry}
-use Rattle.alb_table.specs.Table.{Table, IsTable, CoversType, count_products}
 use Rattle.alb_table.proofs.RangeLemmas.{ats, product_of, type_of_range}
 use Rattle.alb_table.proofs.TableLemmas.{entry_vector}
 use Rattle.alb_answer.specs.Answers.{heading, dimension_line, dimension_lines, product_line, part_lines, product_lines}

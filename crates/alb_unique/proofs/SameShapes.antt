@@ -8,11 +8,8 @@ use Rattle.alb_mono.specs.Listing.{Each, IsIn, Ascends}
 use Rattle.alb_mono.specs.Tree.{cmp_types}
 use Rattle.alb_mono.proofs.ListingLemmas.{each-member}
 use Rattle.alb_poly.specs.Poly.{list_eq}
-use Rattle.alb_table.specs.Entry.{products_of}
-use Rattle.alb_table.specs.Grid.{rectangle}
+use Rattle.alb_table.specs.Table.{products_of, rectangle, PartView, first_of, dim_of, entries_at, elems, types, count_coefficients}
 use Rattle.alb_rows.specs.Row.{Cells}
-use Rattle.alb_table.specs.PartView.{PartView, first_of, dim_of, entries_at, elems, types}
-use Rattle.alb_table.specs.Table.{count_coefficients}
 use Rattle.alb_poly.proofs.Types.{list_eq-itself}
 use Rattle.alb_table.proofs.PartLemmas.{first_here, first_step, length-types, list_eq-other}
 use Rattle.alb_table.proofs.RangeLemmas.{ats}

@@ -12,8 +12,7 @@ use Rattle.gf_field.proofs.Table.{IsPrime-from_table}
 use Rattle.gf_field.specs.Modular.{IsSameMod}
 use Rattle.gf_field.proofs.Mod as mods
 use Rattle.alb_mono.specs.Listing.{Each, IsIn}
-use Rattle.alb_mono.specs.Tree.{Tree, leaf, node, type_of, type_plus, type_le, same_tree, are_below}
-use Rattle.alb_mono.specs.Types.{rising, types_of, splits, IsSplit}
+use Rattle.alb_mono.specs.Tree.{Tree, leaf, node, type_of, type_plus, type_le, same_tree, are_below, rising, types_of, splits, IsSplit}
 use Rattle.alb_mono.proofs.TypesListing.{splits-listing, le-plus}
 use Rattle.alb_mono.proofs.Both.{both_true}
 use Rattle.alb_mono.proofs.Leaves.{plus-node, plus_replicate}
@@ -28,14 +27,11 @@ use Rattle.alb_rows.proofs.RowLemmas.{entry_past, row_is_its_vector}
 use Rattle.alb_subst.specs.Columns.{IsDistinct}
 use Rattle.alb_subst.proofs.ProductLemmas.{distinct-products}
 use Rattle.alb_table.proofs.RiseLemmas.{le_trans}
-use Rattle.alb_table.specs.Grid.{same_pair, find_entry}
-use Rattle.alb_table.specs.Entry.{products, entry_of, table_product}
-use Rattle.alb_table.specs.PartView as View
-use Rattle.alb_table.specs.PartView.{PartView, first_of, dim_of, elems, type_at, entries_at, monos, mono_at}
-use Rattle.alb_table.specs.Right.{AreHigh, IsWithin, IsTypeTo, IsRight}
+use Rattle.alb_table.specs.Table.{same_pair, find_entry, products, entry_of, table_product, PartView, first_of, dim_of, elems, type_at, entries_at, monos, mono_at, Table, IsTable, IsPartOf, CoversType, FactorsBelow, types_to}
+use Rattle.alb_table.specs.Table as View
+use Rattle.alb_table.specs.Right.{AreHigh, IsWithinDegree, IsTypeTo, IsRight}
 use Rattle.alb_table.specs.RightTable.{basis_monos, mono_entry}
-use Rattle.alb_table.specs.Value.{IsVector}
-use Rattle.alb_table.specs.Table.{Table, IsTable, IsPartOf, CoversType, FactorsBelow, types_to}
+use Rattle.alb_table.specs.Value.{IsBasisRow}
 use Rattle.alb_table.specs.declared.part.Elem.{Elem}
 use Rattle.alb_table.specs.declared.part.Elem.TheVariants.{Gen, Prod}
 use Rattle.alb_table.proofs.GridLemmas.{get_some}
@@ -262,7 +258,7 @@ module _ (fs : List Form) (multi : AreMultilinear fs) (high : AreHigh fs) (t u :
 
   -- the product of two basis elements of which the table has an entry
   product-within : (b c : ℕ) → b < length (elems t.parts) → c < length (elems t.parts) → CoversType t (type_plus (type_at t.parts b) (type_at t.parts c))
-      → IsWithin t.target t.degree (node (mono_at t.parts b) (mono_at t.parts c))
+      → IsWithinDegree t.target t.degree (node (mono_at t.parts b) (mono_at t.parts c))
   product-within b c h k v =
       let n = length t.target in
       let ob = number-type fs t tab right b h in
@@ -300,7 +296,7 @@ module _ (fs : List Form) (multi : AreMultilinear fs) (high : AreHigh fs) (t u :
       (subst (λ f. IsSamePoly t.p (mono_entry t.parts x y) f) (sym there') (poly_alike alike))
 
   -- rows over basis elements with one polynomial are one
-  rows-same : (r s : Cells) → IsVector t.p (length (elems t.parts)) r → IsVector t.p (length (elems u.parts)) s
+  rows-same : (r s : Cells) → IsBasisRow t.p (length (elems t.parts)) r → IsBasisRow t.p (length (elems u.parts)) s
       → IsSamePoly t.p (reindex (mono_at t.parts) (comb r)) (reindex (mono_at u.parts) (comb s)) → r ≡ s
   rows-same r s vr vs e = row_is_its_vector t.p r s vr.row vs.row at-columns
     where
@@ -363,7 +359,7 @@ module _ (fs : List Form) (multi : AreMultilinear fs) (high : AreHigh fs) (t u :
   entry-cases b c h k v (Some r) None is is' = absurd (entry_exists u b c tab' (omega (arith, h, fewer)) (omega (arith, k, fewer)) is' (covers-on b c h k v))
   entry-cases b c h k v (Some r) (Some s) is is' =
       let vr = entry_vector t b c r tab is in
-      let vs : IsVector t.p (length (elems u.parts)) s = subst (λ p. IsVector p (length (elems u.parts)) s) field (entry_vector u b c s tab' is') in
+      let vs : IsBasisRow t.p (length (elems u.parts)) s = subst (λ p. IsBasisRow p (length (elems u.parts)) s) field (entry_vector u b c s tab' is') in
       let pr : table_product t.parts b c ≡ comb r = ap (λ o. comb (unwrap_or o [])) is in
       let ps : table_product u.parts b c ≡ comb s = ap (λ o. comb (unwrap_or o [])) is' in
       let e : IsSamePoly t.p (reindex (mono_at t.parts) (comb r)) (reindex (mono_at u.parts) (comb s)) =

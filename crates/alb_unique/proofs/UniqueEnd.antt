@@ -7,18 +7,16 @@ use Rattle.std.proofs.lemmas.Bool.Decides.{nat_tests}
 use Rattle.gf_sums.specs.Sums.{total}
 use Rattle.gf_sums.proofs.Totals.{total-append, total-map}
 use Rattle.alb_mono.specs.Listing.{Each, IsIn}
-use Rattle.alb_mono.specs.Types.{rising, types_of, IsTypeWithin}
+use Rattle.alb_mono.specs.Tree.{rising, types_of, IsTypeWithin}
 use Rattle.alb_mono.proofs.ListingLemmas.{each-member, each-weaker, each-map}
 use Rattle.alb_mono.proofs.TypesListing.{types_of-listing}
 use Rattle.alb_poly.specs.Instance.{Form}
 use Rattle.alb_poly.specs.Consequence.{AreMultilinear}
 use Rattle.alb_build.proofs.CellCounts.{coefficients-append}
 use Rattle.alb_table.specs.End.{End, Complete, TooWide, TooManyProducts, TooManyCoefficients, NoMemory, IsEnd, NextHas, first_wide}
-use Rattle.alb_table.specs.Limits.{next_types, wide, next_products, most_of_type, IsWithinLimits}
-use Rattle.alb_table.specs.PartView.{PartView}
+use Rattle.alb_table.specs.Table.{next_types, wide, next_products, most_of_type, IsWithinLimits, PartView, Table, IsTable, IsPartOf, count_products, count_coefficients, extended}
 use Rattle.alb_table.specs.Right.{AreHigh, IsRight}
 use Rattle.alb_table.specs.RightTable.{IsRightTable, basis_monos, mono_entry}
-use Rattle.alb_table.specs.Table.{Table, IsTable, IsPartOf, count_products, count_coefficients, extended}
 use Rattle.alb_table.proofs.RangeLemmas.{ats}
 use Rattle.alb_unique.specs.Laws.{EndIsUnique}
 use Rattle.alb_unique.proofs.SameShapes.{coefficients-same, HasFront}

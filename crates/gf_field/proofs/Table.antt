@@ -4,8 +4,7 @@ use Rattle.std.proofs.lemmas.Bool.{cases_Bool, cases_eq, eqb-true, ltb-true, fal
 use Rattle.std.proofs.lemmas.Bool.Decides.{nat_tests}
 use Rattle.std.proofs.Math.Nat.{mod-add-div, mod-lt, div-le_self}
 use Rattle.std.specs.List.{list_any, list_all}
-use Rattle.gf_field.specs.Primes.{IsInTable, IsPrime, primes, is_in_table}
-use Rattle.gf_field.specs.Modular.{IsSameMod, IsUnit}
+use Rattle.gf_field.specs.Modular.{IsInTable, IsPrime, primes, is_in_table, IsSameMod, IsUnit}
 use Rattle.gf_field.proofs.Mod.{same, next, times, of_mod, multiple}
 
 and_left : (a b : Bool) → (a && b) ≡ true → a ≡ true

@@ -1,7 +1,6 @@
 -- Laws that functions of `laws` state.
 use Rattle.std.specs.Prelude.{ℕ, ◌<◌}
-use Rattle.gf_field.specs.Primes.{IsInTable, IsPrime}
-use Rattle.gf_field.specs.Modular.{IsUnit}
+use Rattle.gf_field.specs.Modular.{IsInTable, IsPrime, IsUnit}
 
 -- what stands in the table is a prime
 abbrev pub TableHasPrimes : Type 0

@@ -6,8 +6,7 @@
 ghost use Rattle.std.specs.Prelude.{◌≡◌, ◌+◌, ◌-◌, ◌*◌, ◌%◌, ◌<◌, ◌≤◌, ◌≢◌, ◌↔◌, ◌^◌, ◌==◌, IsTrue, MatchResult, pos, ◌-ℤ◌};
 ghost use Rattle.std.specs.List.{list_any};
 ghost use Rattle.std.specs.Int.{int_rem_euclid};
-ghost use Rattle.gf_field.specs.Primes.{IsInTable};
-ghost use Rattle.gf_field.specs.Modular.{IsSameMod};
+ghost use Rattle.gf_field.specs.Modular.{IsInTable, IsSameMod};
 
 use std::marker::Model;
 use thiserror::Error;
@@ -32,7 +31,7 @@ pub struct Field {
 
 impl Model for Field {
     ghost use Rattle.std.specs.Prelude.{ℕ};
-    ghost use Rattle.gf_field.specs.Primes.{IsInTable};
+    ghost use Rattle.gf_field.specs.Modular.{IsInTable};
 
     ghost Value = { ℕ };
 

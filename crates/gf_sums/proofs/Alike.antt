@@ -5,16 +5,16 @@ use Rattle.std.specs.List.{flat_map}
 use Rattle.std.proofs.Math.Nat.{mul-add}
 use Rattle.gf_field.specs.Modular.{IsSameMod}
 use Rattle.gf_field.proofs.Mod.{same, back, ◌⊙◌, plus, times}
-use Rattle.gf_sums.specs.Sums.{total, Comb, weigh, AreSame, scale, reindex, multiply, Tells}
+use Rattle.gf_sums.specs.Sums.{total, Comb, weigh, AreSame, scale, reindex, multiply, TellsApart}
 use Rattle.gf_sums.proofs.Totals.{total-equal, total-same, total-map, total-flat, total-times, total-plus, weigh-append, weigh-scale, weigh-multiply, weigh-same, same-weigh}
 
 pub record Alike {I : Type 0} (p : ℕ) (f g : Comb I) : Type 0 where
   pub at : (w : I → ℕ) → IsSameMod p (weigh w f) (weigh w g)
 
-pub alike-same : {I : Type 0} {p : ℕ} {f g : Comb I} (test : I → I → Bool) → Tells test → AreSame test p f g → Alike p f g
+pub alike-same : {I : Type 0} {p : ℕ} {f g : Comb I} (test : I → I → Bool) → TellsApart test → AreSame test p f g → Alike p f g
 alike-same {f = f} {g = g} test tells h = record { at = weigh-same test tells f g h }
 
-pub same-alike : {I : Type 0} {p : ℕ} {f g : Comb I} (test : I → I → Bool) → Tells test → Alike p f g → AreSame test p f g
+pub same-alike : {I : Type 0} {p : ℕ} {f g : Comb I} (test : I → I → Bool) → TellsApart test → Alike p f g → AreSame test p f g
 same-alike {f = f} {g = g} test tells h = same-weigh test tells f g h.at
 
 pub weigh-reindex : {I J : Type 0} (w : J → ℕ) (h : I → J) (f : Comb I) → weigh w (reindex h f) ≡ weigh (λ i. w (h i)) f

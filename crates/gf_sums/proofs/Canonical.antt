@@ -9,12 +9,12 @@ use Rattle.std.proofs.lemmas.Cmp.{tied_itself}
 use Rattle.std.proofs.lemmas.Bool.{cases_Bool}
 use Rattle.gf_field.specs.Modular.{IsSameMod}
 use Rattle.gf_field.proofs.Mod.{same as alike, back, ◌⊙◌, residues, cancel_plus}
-use Rattle.gf_sums.specs.Sums.{Comb, coefficient, AreSame, Tells, AllBefore, IsCanonical}
+use Rattle.gf_sums.specs.Sums.{Comb, coefficient, AreSame, TellsApart, AllBefore, IsCanonical}
 
 pair_same : {I : Type 0} (s t : ℕ × I) → s.0 ≡ t.0 → s.1 ≡ t.1 → s ≡ t
 pair_same (a, i) (b, j) h k = cc
 
-module _ {I : Type 0} (order : I → I → Ordering) (laws : IsTotalOrder order) (same : I → I → Bool) (tells : Tells same)
+module _ {I : Type 0} (order : I → I → Ordering) (laws : IsTotalOrder order) (same : I → I → Bool) (tells : TellsApart same)
     (told : (i j : I) → order i j ≡ Equal → i ≡ j) where
   apart : (i j : I) → order i j ≡ Less → same i j ≡ false
   apart i j h = elim (cases_Bool (same i j)) [

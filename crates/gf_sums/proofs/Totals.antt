@@ -6,7 +6,7 @@ use Rattle.std.proofs.lemmas.Bool.{cases_Bool, eqb-true, eq-eqb}
 use Rattle.std.proofs.Math.Nat.{mul_assoc, mul_left_comm, add-mul}
 use Rattle.gf_field.specs.Modular.{IsSameMod}
 use Rattle.gf_field.proofs.Mod.{same as alike, next, plus, times}
-use Rattle.gf_sums.specs.Sums.{total, Comb, weigh, coefficient, AreSame, scale, multiply, Tells}
+use Rattle.gf_sums.specs.Sums.{total, Comb, weigh, coefficient, AreSame, scale, multiply, TellsApart}
 
 module _ {X : Type 0} where
   pub total-append : (f : X → ℕ) (xs ys : List X) → total f (xs ++ ys) ≡ total f xs + total f ys
@@ -77,7 +77,7 @@ weigh-multiply prod w f g =
     ∙ total-times s.0 _ g)
 
 -- numbers are told apart by `nat_eq`
-pub numbers-tell : Tells nat_eq
+pub numbers-tell : TellsApart nat_eq
 numbers-tell = record { sound = eqb-true; whole = λ i. eq-eqb i i refl }
 
 -- ---- equal combinations have equal values at every weight
@@ -87,7 +87,7 @@ without : {I : Type 0} → (I → I → Bool) → I → Comb I → Comb I
 without same i [] = []
 without same i (t ∷ f) = if same t.1 i then without same i f else t ∷ without same i f
 
-module _ {I : Type 0} (same : I → I → Bool) (tells : Tells same) where
+module _ {I : Type 0} (same : I → I → Bool) (tells : TellsApart same) where
   -- the terms at `i`, and the others
   split : (w : I → ℕ) (i : I) (f : Comb I) → weigh w f ≡ coefficient same f i * w i + weigh w (without same i f)
   unfolding without

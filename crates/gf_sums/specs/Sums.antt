@@ -39,7 +39,7 @@ abbrev pub multiply : {I J K : Type 0} → (I → J → Comb K) → Comb I → C
 multiply prod f g = flat_map (λ s. flat_map (λ t. scale (s.0 * t.0) (prod s.1 t.1)) g) f
 
 -- `same` tells indices apart
-pub record Tells {I : Type 0} (same : I → I → Bool) : Type 0 where
+pub record TellsApart {I : Type 0} (same : I → I → Bool) : Type 0 where
   pub sound : (i j : I) → same i j ≡ true → i ≡ j
   pub whole : (i : I) → same i i ≡ true
 

@@ -1,5 +1,5 @@
 ghost use Rattle.std.specs.Prelude.{IfOk};
-ghost use Rattle.alb_rows.specs.Row.{AreResidues};
+ghost use Rattle.alb_rows.specs.Row.{AreCellResidues};
 
 use alb_mono::NoMemory;
 use alb_rows::Row;
@@ -9,7 +9,7 @@ use std::test::Fail;
 
 // The sum of rows with one entry each. What is no residue is left out.
 fn sum(alloc: Global, field: &Field, list: &[(u32, Residue)]) -> Result<Row, NoMemory>
-    ensures { IfOk result (λ r. AreResidues field.now r) }
+    ensures { IfOk result (λ r. AreCellResidues field.now r) }
 {
     let mut row = Row::new(alloc);
     for (column, c) in list {

@@ -1,6 +1,6 @@
 ghost use Rattle.std.specs.Prelude.{IfOk};
 ghost use Rattle.alb_problem.specs.Problem.{IsAccepted};
-ghost use Rattle.alb_table.specs.RightFor.{rules_view, IsRightFor};
+ghost use Rattle.alb_table.specs.RightTable.{rules_view, IsRightFor};
 
 use alb_build::{Built, build_all};
 use alb_problem::Problem;

@@ -1,7 +1,7 @@
 ghost use Rattle.std.specs.Prelude.{All, IfOk, length};
 ghost use Rattle.alb_problem.specs.Problem.{IsAccepted};
 ghost use Rattle.alb_deriv.specs.Views.{IsLine};
-ghost use Rattle.alb_table.specs.RightFor.{rules_view, IsRightFor};
+ghost use Rattle.alb_table.specs.RightTable.{rules_view, IsRightFor};
 
 use crate::building::{Topic, built};
 use alb_deriv::{Line, check_claim};

@@ -1,5 +1,5 @@
 ghost use Rattle.std.specs.Prelude.{◌≤◌};
-ghost use Rattle.alb_poly.specs.Rules.{form};
+ghost use Rattle.alb_poly.specs.Consequence.{form};
 ghost use Rattle.alb_linear.specs.Identity.{IsLinearized};
 
 use crate::building::built;

@@ -1,5 +1,5 @@
 ghost use Rattle.alb_problem.specs.Problem.{IsAccepted};
-ghost use Rattle.alb_table.specs.RightFor.{rules_view, IsRightFor};
+ghost use Rattle.alb_table.specs.RightTable.{rules_view, IsRightFor};
 
 use crate::building::{Topic, built};
 use alb_query::{Reply, answer};

@@ -2,7 +2,7 @@ ghost use Rattle.std.specs.Prelude.{◌≡◌, ◌≢◌, ◌+◌, ◌-◌, ◌�
 ghost use Rattle.std.specs.List.{AllByRecursion};
 ghost use Rattle.alb_io.specs.Causes.{Rose};
 ghost use Rattle.alb_io.specs.Files.{Files, HasFile, IsFile, OpenCause};
-ghost use Rattle.alb_io.specs.Memory.{FailsNoMore, HasPieces, IsSoundShelf, Opens, Creates, file_named, files_of, source_of, sink_of, after_call, after_failed_call};
+ghost use Rattle.alb_io.specs.Memory.{FailsNoMore, HasPieces, IsSoundShelf, OpensFile, Creates, file_named, files_of, source_of, sink_of, after_call, after_failed_call};
 ghost use Rattle.alb_io.specs.MemFiles.{stored_of};
 ghost use Rattle.alb_io.specs.declared.desk.OpenError.TheVariants as error;
 
@@ -116,7 +116,7 @@ impl Desk for MemDesk {
         ensures no_memory { IsErrOf result error.NoMemory → self.new ≡ self.old }
         ensures stays_sound { IsSoundShelf self.old → IsSoundShelf self.new × IfOk result (λ source. FailsNoMore source.failing source.next) }
         ensures opens { IsSoundShelf self.old → IsFile (Some (files_of self.old.files)) name.now → IsErrOf result error.Failed → ⊥ }
-        ensures answer { Opens name.now result self.old self.new }
+        ensures answer { OpensFile name.now result self.old self.new }
     {
         if self.failing.contains(&self.next) {
             self.next = self.next.saturating_add(1);

@@ -1,7 +1,7 @@
 use Rattle.std.proofs.Common.{true, sym, codes}
 use Rattle.alb_io.proofs.Writers.{Writes-exit, Writes-more, Writes-then}
 use Rattle.alb_table.specs.declared.part.Elem.TheVariants.{Gen, Prod}
-use Rattle.alb_table.specs.PartView.{mono_at}
+use Rattle.alb_table.specs.Table.{mono_at}
 use Rattle.alb_table.proofs.MonoLemmas.{mono_step}
 use Rattle.alb_print.specs.Text.{mono_text}
 use Rattle.alb_answer.proofs.products.+write_elem.Goals as goal

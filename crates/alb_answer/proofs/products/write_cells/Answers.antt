@@ -1,6 +1,6 @@
 use Rattle.std.proofs.Common.{ℕ, ◌-◌, subst, arith, length, ◌<◌, sym, false-eqb}
 use Rattle.alb_io.proofs.Writers.{Writes-exit, Writes-more, Writes-then, Writes-text}
-use Rattle.alb_table.specs.PartView.{elems, mono_at}
+use Rattle.alb_table.specs.Table.{elems, mono_at}
 use Rattle.alb_print.proofs.Writes.{leading-term}
 use Rattle.alb_answer.proofs.AnswerLemmas.{cells-text}
 use Rattle.std.proofs.lemmas.List.Elements.{All-take}

@@ -1,9 +1,8 @@
 use Rattle.std.proofs.Common.{◌^◌, ◌+◌, rules, arith, length, ◌<◌, ◌≡◌, sym, ap, ◌∙◌}
 use Rattle.std.specs.List.{flat_map}
 use Rattle.alb_io.proofs.Writers.{Writes-exit, Writes-none, Writes-text, Writing-start, Writing-more, Writing-fails, Writing-all}
-use Rattle.alb_table.specs.Grid.{rectangle}
+use Rattle.alb_table.specs.Table.{rectangle, elems}
 use Rattle.alb_answer.specs.Answers.{product_line}
-use Rattle.alb_table.specs.PartView.{elems}
 use Rattle.alb_answer.proofs.AnswerLemmas.{rectangle-start, rectangle-at, rectangle-end, rectangle-empty, rectangle-below, row-below}
 use Rattle.alb_answer.proofs.products.write_grid.Goals as goal
 

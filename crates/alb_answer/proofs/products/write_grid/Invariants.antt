@@ -1,7 +1,8 @@
 use Rattle.std.proofs.Common.{◌+◌, ◌-◌}
 use Rattle.std.specs.List.{flat_map}
 use Rattle.alb_io.proofs.Writers.{Writing}
-use Rattle.alb_table.specs.Grid.{cells_of, rectangle}
+use Rattle.alb_table.specs.Grid.{cells_of}
+use Rattle.alb_table.specs.Table.{rectangle}
 use Rattle.alb_answer.specs.Answers.{product_line}
 use Rattle.alb_answer.proofs.products.write_grid.Given as goal
 

@@ -5,7 +5,7 @@ use Rattle.alb_io.proofs.Writers.{Writes-exit, Writing-start, Writing-more, Writ
 use Rattle.alb_table.specs.Grid.{cells_of}
 use Rattle.alb_table.specs.declared.grid.Grid.{Grid}
 use Rattle.alb_answer.specs.Answers.{product_line}
-use Rattle.alb_table.specs.PartView.{elems}
+use Rattle.alb_table.specs.Table.{elems}
 use Rattle.alb_answer.proofs.AnswerLemmas.{grids-at, grids-below}
 use Rattle.alb_answer.proofs.products.write_grids.Goals as goal
 

@@ -1,7 +1,7 @@
 use Rattle.std.proofs.Common.{◌+◌, ◌-◌, subst, arith, length, ◌<◌, ◌≡◌, ◌∙◌, ap, take, sym, refl}
 use Rattle.std.specs.List.{flat_map}
 use Rattle.alb_io.proofs.Writers.{Writes-exit, Writing-start, Writing-more, Writing-fails, Writing-all, Writes-more, Writes-then, Writes-text}
-use Rattle.alb_table.specs.PartView.{elems, mono_at}
+use Rattle.alb_table.specs.Table.{elems, mono_at}
 use Rattle.alb_print.specs.Text.{later_text}
 use Rattle.alb_print.proofs.Writes.{later-term}
 use Rattle.alb_answer.specs.Answers.{cells_poly}

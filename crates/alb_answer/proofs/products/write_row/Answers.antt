@@ -2,7 +2,7 @@ use Rattle.std.proofs.Common.{◌^◌, ◌+◌, rules, arith, length, ◌<◌, a
 use Rattle.std.specs.List.{flat_map}
 use Rattle.alb_io.proofs.Writers.{Writes-exit, Writing-start, Writing-more, Writing-fails, Writing-all}
 use Rattle.alb_answer.specs.Answers.{product_line}
-use Rattle.alb_table.specs.PartView.{elems}
+use Rattle.alb_table.specs.Table.{elems}
 use Rattle.alb_answer.proofs.AnswerLemmas.{row-start, row-at, row-end, row-below}
 use Rattle.alb_answer.proofs.products.write_row.Goals as goal
 

@@ -1,11 +1,11 @@
 use Rattle.std.proofs.Common.{◌≡◌, ◌∙◌, ℕ, List, map, sym, subst, ap, length, arith, ◌≤◌}
 use Rattle.std.proofs.lemmas.List.{length-map}
-use Rattle.alb_poly.specs.Rules.{form, forms}
+use Rattle.alb_poly.specs.Consequence.{form, forms}
 use Rattle.alb_reduce.specs.Reduction.{Reduction, kept}
 use Rattle.alb_rows.specs.Span.{ArePivots}
-use Rattle.alb_table.specs.PartView.{origin_view}
-use Rattle.alb_block.specs.Asked.{setting}
-use Rattle.alb_block.specs.Instances.{Setting, columns_of}
+use Rattle.alb_table.specs.Table.{origin_view}
+use Rattle.alb_block.specs.Asked.{block_setting}
+use Rattle.alb_block.specs.Instances.{BlockSetting, columns_of}
 use Rattle.alb_block.specs.Offers.{AreKept, HasBefore}
 use Rattle.alb_block.proofs.OfferLemmas.{spans-all, origins-kept}
 use Rattle.alb_block.proofs.MeaningLemmas.{block-at}
@@ -13,7 +13,7 @@ use Rattle.alb_block.proofs.block.reduce_block.Goals as goal
 
 pub returns-clause-answer : goal.returns-clause-answer
 returns-clause-answer c =
-    let s : Setting = setting c.args.rules.now c.args.tables.now c.args.t.now in
+    let s : BlockSetting = block_setting c.args.rules.now c.args.tables.now c.args.t.now in
     let names : List (ℕ × List ℕ) = map origin_view c.in_ok-echelon.field-0.origins.items in
     let same : c.in_ok-reduced.reduced ≡ c.in_ok-echelon.field-0.echelon = c.in_ok-reduced.ensures in
     let k : AreKept s c.in_ok-reduced.reduced names = subst (λ (e : Reduction). AreKept s e names) (sym same) c.in_ok-echelon.ensures.kept in
@@ -33,7 +33,7 @@ returns-clause-answer c =
 
 pub returns-clause-block : goal.returns-clause-block
 returns-clause-block c =
-    let s : Setting = setting c.args.rules.now c.args.tables.now c.args.t.now in
+    let s : BlockSetting = block_setting c.args.rules.now c.args.tables.now c.args.t.now in
     let names : List (ℕ × List ℕ) = map origin_view c.in_ok-echelon.field-0.origins.items in
     let same : c.in_ok-reduced.reduced ≡ c.in_ok-echelon.field-0.echelon = c.in_ok-reduced.ensures in
     let k : AreKept s c.in_ok-reduced.reduced names = subst (λ (e : Reduction). AreKept s e names) (sym same) c.in_ok-echelon.ensures.kept in

@@ -1,13 +1,12 @@
 use Rattle.std.proofs.Common.{◌≡◌, ℕ, ◌∷◌, List, subst, ◌≤◌, arith}
 use Rattle.std.proofs.lemmas.List.{length-map}
-use Rattle.alb_poly.specs.Rules.{form}
-use Rattle.alb_poly.specs.Consequence.{form_at}
+use Rattle.alb_poly.specs.Consequence.{form, form_at}
 use Rattle.alb_linear.specs.Identity.{IsLinearized}
-use Rattle.alb_table.specs.RightFor.{rules_view}
+use Rattle.alb_table.specs.RightTable.{rules_view}
 use Rattle.alb_table.proofs.RightForLemmas.{right-linearized}
 use Rattle.alb_subst.specs.Sums.{HasEntries, instance_row}
-use Rattle.alb_block.specs.Asked.{setting}
-use Rattle.alb_block.specs.Instances.{Setting, IsInstance}
+use Rattle.alb_block.specs.Asked.{block_setting}
+use Rattle.alb_block.specs.Instances.{BlockSetting, IsInstance}
 use Rattle.alb_block.specs.Offers.{HasMore, IsRowOf}
 use Rattle.alb_block.proofs.OfferLemmas.{Lacks, form_item, item-form, row-of, lacks-less, before-more, before-next}
 use Rattle.alb_block.proofs.offers.offer_form.Goals as goal
@@ -23,7 +22,7 @@ row_of-requires-clause-form c =
 
 pub loop-tuple-preserved : goal.loop-tuple-preserved
 loop-tuple-preserved c =
-    let s : Setting = setting c.args.from.now.rules.now c.args.from.now.tables.now c.args.from.now.at.now in
+    let s : BlockSetting = block_setting c.args.from.now.rules.now c.args.from.now.tables.now c.args.from.now.at.now in
     let e : form c.index-f.result.now ≡ form_at s.forms c.args.k = form_item c.args.from.now.rules.now.linears.items c.args.k c.index-f.result.now c.requires.form c.index-f.ensures in
     let x : List ℕ = c.in-Some.tuple.items in
     let l : Lacks s c.loop-tuple.offers.echelon c.args.k (x ∷ c.next.new.self) =
@@ -41,6 +40,6 @@ loop-tuple-preserved c =
 
 pub returns-clause-before : goal.returns-clause-before
 returns-clause-before c =
-    let s : Setting = setting c.args.from.now.rules.now c.args.from.now.tables.now c.args.from.now.at.now in
+    let s : BlockSetting = block_setting c.args.from.now.rules.now c.args.from.now.tables.now c.args.from.now.at.now in
     before-next s c.loop-tuple.offers.echelon c.args.k c.loop-tuple.invariant.before
     (subst (Lacks s c.loop-tuple.offers.echelon c.args.k) c.in_default.ensures.none.0 c.loop-tuple.invariant.lacks)

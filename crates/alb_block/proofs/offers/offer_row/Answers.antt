@@ -2,7 +2,7 @@ use Rattle.std.proofs.Common.{◌≡◌, ℕ, [], ◌∷◌, ◌++◌, List, map
 use Rattle.alb_rows.specs.Row.{entry}
 use Rattle.alb_rows.specs.Span.{InSpan, SameSpan, rows_of}
 use Rattle.alb_reduce.specs.Reduction.{kept}
-use Rattle.alb_table.specs.PartView.{origin_view}
+use Rattle.alb_table.specs.Table.{origin_view}
 use Rattle.alb_block.specs.Offers.{AreKept}
 use Rattle.alb_block.proofs.OfferLemmas.{has-zero, has-more, kept-dependent, kept-pivot, views-more}
 use Rattle.alb_block.proofs.offers.offer_row.Goals as goal

@@ -1,5 +1,5 @@
 use Rattle.std.proofs.Common.{sym, subst}
-use Rattle.alb_table.specs.RightFor.{rules_view, IsRightFor}
+use Rattle.alb_table.specs.RightTable.{rules_view, IsRightFor}
 use Rattle.alb_table.proofs.RightForLemmas.{first-right-for, rules-multilinear}
 use Rattle.alb_build.proofs.build.build_all.Goals as goal
 

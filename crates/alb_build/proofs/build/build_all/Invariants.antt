@@ -1,5 +1,5 @@
 use Rattle.std.proofs.Common.{◌-◌, sum}
-use Rattle.alb_table.specs.RightFor.{rules_view, IsRightFor}
+use Rattle.alb_table.specs.RightTable.{rules_view, IsRightFor}
 use Rattle.alb_build.proofs.build.build_all.Given as goal
 
 abbrev pub invariant-loop-alloc : goal.invariant-loop-alloc

@@ -1,6 +1,5 @@
 use Rattle.std.proofs.Common.{◌≡◌, ◌+◌, drop, map}
-use Rattle.alb_table.specs.PartView.{part_view}
-use Rattle.alb_table.specs.Table.{count_coefficients}
+use Rattle.alb_table.specs.Table.{part_view, count_coefficients}
 use Rattle.alb_build.proofs.count.count_part_cells.Given as goal
 
 abbrev pub invariant-loop-part : goal.invariant-loop-part

@@ -1,8 +1,6 @@
 use Rattle.std.proofs.Common.{◌+◌, ◌≤◌, ◌++◌, List, length, arith, ap, sym, subst, map}
-use Rattle.alb_poly.specs.Rules.{forms}
-use Rattle.alb_table.specs.PartView.{PartView, part_view, elems}
-use Rattle.alb_table.specs.Limits.{next_types, next_products}
-use Rattle.alb_table.specs.Table.{IsTable, count_coefficients, extended}
+use Rattle.alb_poly.specs.Consequence.{forms}
+use Rattle.alb_table.specs.Table.{PartView, part_view, elems, next_types, next_products, IsTable, count_coefficients, extended}
 use Rattle.alb_table.specs.declared.part.Part.{Part}
 use Rattle.alb_block.specs.View.{block_view}
 use Rattle.alb_block.specs.declared.block.Block.{Block}
@@ -14,7 +12,7 @@ use Rattle.alb_build.proofs.Few.{right-few}
 use Rattle.alb_build.proofs.Grown.{made-types, grown-parts, grown-countable, grown-table, table-big, new-few}
 use Rattle.alb_build.proofs.NextRight.{next-has}
 use Rattle.alb_build.proofs.NextTable.{next-table}
-use Rattle.alb_table.specs.RightFor.{rules_view, IsRightFor}
+use Rattle.alb_table.specs.RightTable.{rules_view, IsRightFor}
 use Rattle.alb_table.proofs.RightForLemmas.{right-extended}
 use Rattle.alb_build.proofs.growth.grow.Goals as goal
 

@@ -1,5 +1,5 @@
 use Rattle.std.proofs.Common.{rules, arith, ◌≡◌, ◌+◌, length, sym, subst, ap, List}
-use Rattle.alb_table.specs.PartView.{elems}
+use Rattle.alb_table.specs.Table.{elems}
 use Rattle.alb_table.specs.declared.part.Part.{Part}
 use Rattle.alb_block.specs.View.{block_view}
 use Rattle.alb_build.specs.Part.{FitsBlock}

@@ -1,5 +1,5 @@
 use Rattle.std.proofs.Common.{length, vec_len}
-use Rattle.alb_table.specs.PartView.{elems}
+use Rattle.alb_table.specs.Table.{elems}
 use Rattle.alb_build.proofs.PartsSteps.{Makes}
 use Rattle.alb_build.proofs.part.parts_of.Given as goal
 

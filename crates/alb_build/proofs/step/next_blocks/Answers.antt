@@ -1,7 +1,7 @@
 use Rattle.std.proofs.Common.{◌≡◌, ◌+◌, [], ◌∷◌, ◌++◌, map, arith, ap, ◌∙◌, sym, subst, take, suc}
 use Rattle.std.proofs.lemmas.List.{map-append}
-use Rattle.alb_mono.specs.Types.{types_of}
-use Rattle.alb_poly.specs.Rules.{forms}
+use Rattle.alb_mono.specs.Tree.{types_of}
+use Rattle.alb_poly.specs.Consequence.{forms}
 use Rattle.alb_block.specs.View.{block_view}
 use Rattle.alb_build.specs.Next.{AreBlocks, IsNextBlock}
 use Rattle.alb_build.proofs.Wide.{type-next, wide-stop, blocks-more}

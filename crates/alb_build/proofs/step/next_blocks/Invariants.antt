@@ -1,5 +1,5 @@
 use Rattle.std.proofs.Common.{map, take}
-use Rattle.alb_poly.specs.Rules.{forms}
+use Rattle.alb_poly.specs.Consequence.{forms}
 use Rattle.alb_block.specs.View.{block_view}
 use Rattle.alb_build.specs.Next.{AreBlocks}
 use Rattle.alb_build.proofs.step.next_blocks.Given as goal

@@ -1,7 +1,7 @@
 use Rattle.std.proofs.Common.{map}
 use Rattle.alb_block.specs.View.{block_view}
-use Rattle.alb_poly.specs.Rules.{forms}
-use Rattle.alb_table.specs.Limits.{next_types}
+use Rattle.alb_poly.specs.Consequence.{forms}
+use Rattle.alb_table.specs.Table.{next_types}
 use Rattle.alb_build.specs.Next.{PassesProducts, PassesCoefficients}
 use Rattle.alb_build.proofs.Wide.{all-narrow}
 use Rattle.alb_build.proofs.step.next_step.Goals as goal

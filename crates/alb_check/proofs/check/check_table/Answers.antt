@@ -1,7 +1,7 @@
 use Rattle.std.proofs.Common.{◌<◌, List, true, false, sym, refl, subst}
 use Rattle.std.specs.List.{All}
 use Rattle.std.proofs.lemmas.Bool.{false≢true}
-use Rattle.alb_poly.specs.Rules.{forms}
+use Rattle.alb_poly.specs.Consequence.{forms}
 use Rattle.alb_rows.specs.Row.{comb}
 use Rattle.alb_check.specs.declared.raw.RawEntry.{RawEntry}
 use Rattle.alb_check.specs.Raw.{raw}

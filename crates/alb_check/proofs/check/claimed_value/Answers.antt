@@ -1,8 +1,8 @@
 use Rattle.std.proofs.Common.{List, sym, subst}
 use Rattle.std.specs.List.{All}
 use Rattle.std.proofs.lemmas.Result.{IfOk-weaker}
-use Rattle.alb_poly.specs.Rules.{forms}
-use Rattle.alb_rows.specs.Row.{Cells, comb, AreResidues}
+use Rattle.alb_poly.specs.Consequence.{forms}
+use Rattle.alb_rows.specs.Row.{Cells, comb, AreCellResidues}
 use Rattle.alb_check.specs.Raw.{raw}
 use Rattle.alb_check.specs.TableAlgebra.{generator_value}
 use Rattle.alb_check.specs.Products.{vectors, GivesGenerators}
@@ -14,7 +14,7 @@ pub value_of-requires-clause-rows : goal.value_of-requires-clause-rows
 value_of-requires-clause-rows c =
     let t = raw c.args.table.now in
     let one = above_one c.args.rules.now.field c.args.rules.now.target (forms c.args.rules.now) t c.requires.rules c.requires.raw c.requires.shape in
-    subst (λ (rs : List Cells). All (λ r. AreResidues c.args.rules.now.field r) rs) (sym c.deref.ensures.value) (c.in_ok-rows.ensures.residues c.args.rules.now.field one)
+    subst (λ (rs : List Cells). All (λ r. AreCellResidues c.args.rules.now.field r) rs) (sym c.deref.ensures.value) (c.in_ok-rows.ensures.residues c.args.rules.now.field one)
 
 pub returns-clause-value : goal.returns-clause-value
 returns-clause-value c =

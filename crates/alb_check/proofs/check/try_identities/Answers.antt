@@ -1,11 +1,9 @@
 use Rattle.std.proofs.Common.{List, get_or, arith, ap, ◌∙◌, sym, subst, length, refl, below_more}
 use Rattle.std.proofs.lemmas.List.{length-map}
-use Rattle.alb_poly.specs.Rules.{form, forms}
-use Rattle.alb_poly.specs.Consequence.{form_at}
+use Rattle.alb_poly.specs.Consequence.{form, forms, form_at}
 use Rattle.alb_poly.specs.declared.rules.Linear.{Linear}
 use Rattle.alb_check.specs.Raw.{raw}
-use Rattle.alb_check.specs.TableAlgebra.{IsZeroAtTuples}
-use Rattle.alb_check.specs.First.{IsFirstTuple}
+use Rattle.alb_check.specs.TableAlgebra.{IsZeroAtTuples, IsFirstTuple}
 use Rattle.alb_check.proofs.CheckLemmas.{form_item, item_linearized, each_from_places}
 use Rattle.alb_check.proofs.check.try_identities.Goals as goal
 

@@ -1,6 +1,5 @@
 use Rattle.std.proofs.Common.{ℕ, ◌<◌}
-use Rattle.alb_poly.specs.Rules.{forms}
-use Rattle.alb_poly.specs.Consequence.{form_at}
+use Rattle.alb_poly.specs.Consequence.{forms, form_at}
 use Rattle.alb_check.specs.Raw.{raw}
 use Rattle.alb_check.specs.TableAlgebra.{IsZeroAtTuples}
 use Rattle.alb_check.proofs.check.try_identities.Given as goal

@@ -1,7 +1,6 @@
 use Rattle.std.proofs.Common.{◌≡◌, drop}
 use Rattle.std.specs.List.{list_all}
-use Rattle.alb_check.specs.Raw.{raw}
-use Rattle.alb_check.specs.Shape.{is_entry_right, are_entries_right}
+use Rattle.alb_check.specs.Raw.{raw, is_entry_right, are_entries_right}
 use Rattle.alb_check.proofs.shape.are_entries_right.Given as goal
 
 abbrev pub invariant-loop-entry : goal.invariant-loop-entry

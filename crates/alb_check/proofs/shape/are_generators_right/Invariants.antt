@@ -1,6 +1,5 @@
 use Rattle.std.proofs.Common.{◌≡◌, drop}
-use Rattle.alb_check.specs.Raw.{raw}
-use Rattle.alb_check.specs.Shape.{are_generators_right}
+use Rattle.alb_check.specs.Raw.{raw, are_generators_right}
 use Rattle.alb_check.proofs.shape.are_generators_right.Given as goal
 
 abbrev pub invariant-loop-g : goal.invariant-loop-g

@@ -1,5 +1,5 @@
 use Rattle.std.proofs.Common.{◌≡◌, map, take}
-use Rattle.alb_table.specs.PartView.{type_at}
+use Rattle.alb_table.specs.Table.{type_at}
 use Rattle.alb_check.proofs.sub.element_types.Given as goal
 
 abbrev pub invariant-loop-b : goal.invariant-loop-b

@@ -1,9 +1,8 @@
 use Rattle.std.proofs.Common.{◌≡◌, ◌∙◌, ◌<◌, ℕ, List, true, false, refl, ap, sym, length, get_or, arith}
 use Rattle.std.specs.Prelude.{Some, None}
 use Rattle.std.proofs.lemmas.List.{length-map}
-use Rattle.alb_mono.specs.Tree.{type_le}
-use Rattle.alb_mono.specs.Types.{rising}
-use Rattle.alb_table.specs.PartView.{elems}
+use Rattle.alb_mono.specs.Tree.{type_le, rising}
+use Rattle.alb_table.specs.Table.{elems}
 use Rattle.alb_table.proofs.GeneratorLemmas.{gens_within}
 use Rattle.alb_check.specs.SubTable.{is_kept, number_of, generator_number}
 use Rattle.alb_check.proofs.SubCode.{map-push, map-get}

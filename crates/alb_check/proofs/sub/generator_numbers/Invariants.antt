@@ -1,5 +1,5 @@
 use Rattle.std.proofs.Common.{◌≡◌, map}
-use Rattle.alb_mono.specs.Types.{rising}
+use Rattle.alb_mono.specs.Tree.{rising}
 use Rattle.alb_check.specs.SubTable.{generator_number}
 use Rattle.alb_check.proofs.sub.generator_numbers.Given as goal
 

@@ -1,6 +1,6 @@
 use Rattle.std.proofs.Common.{◌≡◌, map}
 use Rattle.std.specs.List.{filter}
-use Rattle.alb_mono.specs.Types.{rising}
+use Rattle.alb_mono.specs.Tree.{rising}
 use Rattle.alb_check.specs.SubTable.{is_kept, number_of}
 use Rattle.alb_check.proofs.sub.kept_elements.Given as goal
 

@@ -3,10 +3,9 @@ use Rattle.std.specs.List.{flat_map}
 use Rattle.alb_check.specs.declared.raw.RawEntry.{RawEntry}
 use Rattle.alb_check.proofs.sub.push_products.Goals.{then-le+in_ok-push_product, else-le}
 use Rattle.std.proofs.lemmas.List.{length-map}
-use Rattle.alb_mono.specs.Tree.{type_le, type_plus}
-use Rattle.alb_mono.specs.Types.{rising, type_minus}
+use Rattle.alb_mono.specs.Tree.{type_le, type_plus, rising, type_minus}
 use Rattle.alb_mono.proofs.TypesListing.{length-minus}
-use Rattle.alb_table.specs.PartView.{elems, type_at}
+use Rattle.alb_table.specs.Table.{elems, type_at}
 use Rattle.alb_check.specs.SubTable.{number_of, product_entries}
 use Rattle.alb_check.proofs.SubCode.{kept-at, piece-push, rest-fits, entry-equal}
 use Rattle.alb_check.proofs.SubShape.{length-rising}

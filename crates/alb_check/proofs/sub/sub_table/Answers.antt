@@ -1,7 +1,7 @@
 use Rattle.std.proofs.Common.{◌<◌, ◌∙◌, length, map, ap, sym, subst}
 use Rattle.alb_mono.specs.Listing.{Each}
 use Rattle.alb_mono.proofs.ListingLemmas.{each-weaker}
-use Rattle.alb_table.specs.PartView.{elems, type_at}
+use Rattle.alb_table.specs.Table.{elems, type_at}
 use Rattle.alb_check.specs.SubTable.{kept_elements}
 use Rattle.alb_check.proofs.SubCode.{kept-all, made-raw}
 use Rattle.alb_check.proofs.SubShape.{IsKept}

@@ -2,10 +2,10 @@ use Rattle.std.proofs.Common.{◌≡◌, ◌∙◌, ℕ, ◌+◌, List, ◌<◌,
 use Rattle.std.specs.Prelude.{vec_len}
 use Rattle.std.specs.List.{filter}
 use Rattle.std.proofs.lemmas.List.{length-append}
-use Rattle.alb_poly.specs.Rules.{form}
+use Rattle.alb_poly.specs.Consequence.{form}
 use Rattle.alb_check.specs.Raw.{raw}
-use Rattle.alb_check.specs.TableAlgebra.{IsZeroAt}
-use Rattle.alb_check.specs.Walk.{fits, IsZeroFrom, IsFirstFrom}
+use Rattle.alb_check.specs.TableAlgebra.{IsZeroAtTuple}
+use Rattle.alb_check.specs.Walk.{fits_top, IsZeroFrom, IsFirstFrom}
 use Rattle.alb_check.proofs.TableLemmas.{shaped}
 use Rattle.alb_check.proofs.WalkLemmas.{tells_zero, tells_fails, zero_end, first_end, chosen_at, next_elements, next_leaves, next_candidates, zero_all, first_found, zero_more, popped}
 use Rattle.alb_check.proofs.walk.+walk.Goals as goal
@@ -15,14 +15,14 @@ returns-then-len-from-clause-zero n c = λ e.
     let t = raw c.args.trial.now.table.now in
     let f = form c.args.trial.now.linear.now in
     zero_end c.args.trial.now.rules.now.field t f c.args.tuple.now.items (omega arith)
-    (tells_zero c.in_ok-zero.zero (IsZeroAt c.args.trial.now.rules.now.field t f c.args.tuple.now.items) (rw c.deref.ensures.value at c.in_ok-zero.ensures) e)
+    (tells_zero c.in_ok-zero.zero (IsZeroAtTuple c.args.trial.now.rules.now.field t f c.args.tuple.now.items) (rw c.deref.ensures.value at c.in_ok-zero.ensures) e)
 
 pub returns-then-len-from-clause-first : goal.returns-then-len-from-clause-first
 returns-then-len-from-clause-first n c = λ e.
     let t = raw c.args.trial.now.table.now in
     let f = form c.args.trial.now.linear.now in
     first_end c.args.trial.now.rules.now.field t f c.args.tuple.now.items (record { long = omega arith; elements = c.requires.elements })
-    (tells_fails c.in_ok-zero.zero (IsZeroAt c.args.trial.now.rules.now.field t f c.args.tuple.now.items) (rw c.deref.ensures.value at c.in_ok-zero.ensures) e)
+    (tells_fails c.in_ok-zero.zero (IsZeroAtTuple c.args.trial.now.rules.now.field t f c.args.tuple.now.items) (rw c.deref.ensures.value at c.in_ok-zero.ensures) e)
 
 pub rest_after-left-requires-clause-element : goal.rest_after-left-requires-clause-element
 rest_after-left-requires-clause-element n c =
@@ -47,7 +47,7 @@ walk-requires n c =
     let t = raw c.args.trial.now.table.now in
     let right = shaped c.args.trial.now.rules.now.target c.args.trial.now.rules.now.field t c.requires.trial.shape in
     let xs = c.deref-k-items.result.now in
-    let is : xs ≡ filter (fits t c.args.rest.now) c.args.candidates.now = c.deref-k-items.ensures.value ∙ c.in_ok-fitting.ensures in
+    let is : xs ≡ filter (fits_top t c.args.rest.now) c.args.candidates.now = c.deref-k-items.ensures.value ∙ c.in_ok-fitting.ensures in
     let chosen = chosen_at c.args.trial.now.rules.now.field c.args.trial.now.rules.now.target t c.requires.trial.table right
     c.args.tuple.now.items c.args.rest.now c.args.candidates.now xs c.loop-k.k-index c.requires.leaves c.requires.candidates is c.loop-k-test.true in
     let k : ℕ = get_or xs c.loop-k.k-index 0 in
@@ -79,7 +79,7 @@ returns-then-branch-clause-first n c = λ e.
     let p = c.args.trial.now.rules.now.field in
     let right = shaped c.args.trial.now.rules.now.target p t c.requires.trial.shape in
     let ks = c.args.tuple.now.items in
-    let F : List ℕ = filter (fits t c.args.rest.now) c.args.candidates.now in
+    let F : List ℕ = filter (fits_top t c.args.rest.now) c.args.candidates.now in
     let xs = c.deref-k-items.result.now in
     let is : xs ≡ F = c.deref-k-items.ensures.value ∙ c.in_ok-fitting.ensures in
     let i = c.loop-k.k-index in
@@ -105,7 +105,7 @@ returns-clause-zero n c = λ e.
     let p = c.args.trial.now.rules.now.field in
     let right = shaped c.args.trial.now.rules.now.target p t c.requires.trial.shape in
     let ks = c.args.tuple.now.items in
-    let F : List ℕ = filter (fits t c.args.rest.now) c.args.candidates.now in
+    let F : List ℕ = filter (fits_top t c.args.rest.now) c.args.candidates.now in
     let is : c.deref-k-items.result.now ≡ F = c.deref-k-items.ensures.value ∙ c.in_ok-fitting.ensures in
     let all : (j : ℕ) → j < length F → IsZeroFrom p t f (ks ++ get_or F j 0 ∷ []) =
     λ j l. subst (λ (ys : List ℕ). IsZeroFrom p t f (ks ++ get_or ys j 0 ∷ [])) is (c.loop-k.invariant.zero j (omega (arith, ap length is))) in

@@ -1,5 +1,5 @@
 use Rattle.std.proofs.Common.{◌≡◌, ◌-◌, ◌<◌, ◌++◌, ◌∷◌, [], ℕ, length, get_or}
-use Rattle.alb_poly.specs.Rules.{form}
+use Rattle.alb_poly.specs.Consequence.{form}
 use Rattle.alb_check.specs.Raw.{raw}
 use Rattle.alb_check.specs.Walk.{IsZeroFrom}
 use Rattle.alb_check.proofs.walk.+walk.Given as goal

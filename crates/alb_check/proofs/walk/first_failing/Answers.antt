@@ -1,4 +1,4 @@
-use Rattle.alb_poly.specs.Rules.{form}
+use Rattle.alb_poly.specs.Consequence.{form}
 use Rattle.alb_check.specs.Raw.{raw}
 use Rattle.alb_check.proofs.WalkLemmas.{first_tuple, zero_tuples}
 use Rattle.alb_check.proofs.walk.first_failing.Goals as goal

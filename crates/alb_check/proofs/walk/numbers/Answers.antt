@@ -1,6 +1,6 @@
 use Rattle.std.proofs.Common.{◌≡◌, ◌∙◌, ◌+◌, ◌∷◌, [], ◌++◌, ap, sym, arith, add-one}
 use Rattle.std.specs.Prelude.{ℕ}
-use Rattle.alb_mono.specs.Types.{rising}
+use Rattle.alb_mono.specs.Tree.{rising}
 use Rattle.alb_mono.proofs.TypeLemmas.{rising_more}
 use Rattle.alb_check.specs.Raw.{raw}
 use Rattle.alb_check.proofs.WalkLemmas.{all_candidates}

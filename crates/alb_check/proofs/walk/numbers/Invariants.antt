@@ -1,5 +1,5 @@
 use Rattle.std.proofs.Common.{◌≡◌}
-use Rattle.alb_mono.specs.Types.{rising}
+use Rattle.alb_mono.specs.Tree.{rising}
 use Rattle.alb_check.proofs.walk.numbers.Given as goal
 
 abbrev pub invariant-loop-k : goal.invariant-loop-k

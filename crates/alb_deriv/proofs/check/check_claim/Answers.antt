@@ -1,5 +1,5 @@
 use Rattle.std.proofs.Common.{◌≡◌, ◌∙◌, map, sym, refl, true, false}
-use Rattle.alb_poly.specs.Rules.{forms}
+use Rattle.alb_poly.specs.Consequence.{forms}
 use Rattle.alb_deriv.specs.Derivation.{same_terms}
 use Rattle.alb_deriv.specs.Views.{line}
 use Rattle.alb_deriv.proofs.Judged.{no_fault-derivation, derived-consequence}

@@ -1,8 +1,8 @@
 use Rattle.std.proofs.Common.{◌≡◌, ◌+◌, ◌∙◌, [], ◌∷◌, ◌++◌, map, take, length, arith, sym, ap, subst, All, not}
 use Rattle.std.proofs.lemmas.List.Elements.{All-push}
 use Rattle.alb_poly.specs.Poly.{AreResidues}
-use Rattle.alb_poly.specs.Rules.{forms}
-use Rattle.alb_deriv.specs.Answers.{Tells, IsFit}
+use Rattle.alb_poly.specs.Consequence.{forms}
+use Rattle.alb_deriv.specs.Answers.{TellsFault, IsPolyAtMost}
 use Rattle.alb_deriv.specs.declared.error.DerivError.{DerivError}
 use Rattle.alb_deriv.specs.Derivation.{fault, first_fault, line_values}
 use Rattle.alb_deriv.specs.Views.{line}
@@ -18,7 +18,7 @@ returns-in-Err-clause-exact c =
     let k = c.loop-k.k in
     let gs = line_values fs [] (map line (take k xs)) in
     let here = fault-here p target fs xs k c.index-lines-k.result (first_fault p target fs [] (map line xs)) c.loop-k-test.true c.index-lines-k.is c.loop-k.invariant.found in
-    subst (λ (e : DerivError). Tells e (first_fault p target fs [] (map line xs))) (sym c.at.ensures)
+    subst (λ (e : DerivError). TellsFault e (first_fault p target fs [] (map line xs))) (sym c.at.ensures)
     (tells-at c.in-Err.fault (fault p target fs gs (line c.index-lines-k.result)) (k + 1) _ _ (c.in-Err.ensures.value gs (c.deref.ensures.value ∙ c.loop-k.invariant.value)) here)
 
 pub loop-k-preserved : goal.loop-k-preserved
@@ -36,7 +36,7 @@ loop-k-preserved c =
     record {
       value = pushed ∙ values-more p target fs xs k x c.loop-k.values.items c.in-Ok.value c.loop-k-test.true c.index-lines-k.is c.loop-k.invariant.value v.1;
       found = found-more p target fs xs k x (first_fault p target fs [] (map line xs)) c.loop-k-test.true c.index-lines-k.is c.loop-k.invariant.found v.0;
-      fit = subst (All (IsFit target)) (sym pushed) (All-push (IsFit target) c.loop-k.values.items c.in-Ok.value c.loop-k.invariant.fit c.in-Ok.ensures.fit);
+      fit = subst (All (IsPolyAtMost target)) (sym pushed) (All-push (IsPolyAtMost target) c.loop-k.values.items c.in-Ok.value c.loop-k.invariant.fit c.in-Ok.ensures.fit);
       residues = subst (All (AreResidues p)) (sym pushed) (All-push (AreResidues p) c.loop-k.values.items c.in-Ok.value c.loop-k.invariant.residues c.in-Ok.ensures.residues);
     }
 

@@ -1,6 +1,5 @@
 use Rattle.std.proofs.Common.{◌≤◌, arith, subst, sym}
-use Rattle.alb_mono.specs.Mono.{tree}
-use Rattle.alb_mono.specs.Tree.{count, degree}
+use Rattle.alb_mono.specs.Tree.{tree, count, degree}
 use Rattle.alb_deriv.proofs.Within.{total-more}
 use Rattle.alb_deriv.proofs.types.all_occurrences.Goals as goal
 

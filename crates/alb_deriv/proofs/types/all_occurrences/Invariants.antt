@@ -1,7 +1,6 @@
 use Rattle.std.proofs.Common.{◌≡◌, ◌≤◌, ◌*◌, map, take}
 use Rattle.gf_sums.specs.Sums.{total}
-use Rattle.alb_mono.specs.Mono.{tree}
-use Rattle.alb_mono.specs.Tree.{count}
+use Rattle.alb_mono.specs.Tree.{tree, count}
 use Rattle.alb_deriv.proofs.types.all_occurrences.Given as goal
 
 abbrev pub invariant-loop-m : goal.invariant-loop-m

@@ -1,7 +1,6 @@
 use Rattle.std.proofs.Common.{◌≡◌, ◌+◌, ℕ, List, arith, map, get_or, length, sym, ap}
 use Rattle.gf_sums.specs.Sums.{total}
-use Rattle.alb_mono.specs.Mono.{tree}
-use Rattle.alb_mono.specs.Tree.{count}
+use Rattle.alb_mono.specs.Tree.{tree, count}
 use Rattle.alb_deriv.proofs.Within.{within_all, within_not}
 use Rattle.alb_deriv.proofs.types.are_within.Goals as goal
 

@@ -1,7 +1,6 @@
 use Rattle.std.proofs.Common.{◌<◌, ◌≤◌, ℕ, map, get_or}
 use Rattle.gf_sums.specs.Sums.{total}
-use Rattle.alb_mono.specs.Mono.{tree}
-use Rattle.alb_mono.specs.Tree.{count}
+use Rattle.alb_mono.specs.Tree.{tree, count}
 use Rattle.alb_deriv.proofs.types.are_within.Given as goal
 
 abbrev pub invariant-loop-g : goal.invariant-loop-g

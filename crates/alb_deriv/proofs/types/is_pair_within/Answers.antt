@@ -1,6 +1,5 @@
 use Rattle.std.proofs.Common.{◌≡◌, ◌+◌, ℕ, List, arith, get_or, length, sym, ap}
-use Rattle.alb_mono.specs.Mono.{tree}
-use Rattle.alb_mono.specs.Tree.{count}
+use Rattle.alb_mono.specs.Tree.{tree, count}
 use Rattle.alb_deriv.proofs.Within.{within_all, within_not}
 use Rattle.alb_deriv.proofs.types.is_pair_within.Goals as goal
 

@@ -1,6 +1,5 @@
 use Rattle.std.proofs.Common.{◌<◌, ◌≤◌, ◌+◌, ℕ, get_or}
-use Rattle.alb_mono.specs.Mono.{tree}
-use Rattle.alb_mono.specs.Tree.{count}
+use Rattle.alb_mono.specs.Tree.{tree, count}
 use Rattle.alb_deriv.proofs.types.is_pair_within.Given as goal
 
 abbrev pub invariant-loop-g : goal.invariant-loop-g

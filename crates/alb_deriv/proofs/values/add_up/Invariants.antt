@@ -1,14 +1,13 @@
 use Rattle.std.proofs.Common.{◌≡◌, List, map, take}
-use Rattle.alb_poly.specs.Poly.{Poly, AreResidues}
-use Rattle.alb_poly.specs.Normal.{normal}
-use Rattle.alb_poly.specs.Rules.{forms}
+use Rattle.alb_poly.specs.Poly.{Poly, AreResidues, normal}
+use Rattle.alb_poly.specs.Consequence.{forms}
 use Rattle.alb_deriv.specs.Derivation.{line_value, Sum}
-use Rattle.alb_deriv.specs.Answers.{IsFit}
+use Rattle.alb_deriv.specs.Answers.{IsPolyAtMost}
 use Rattle.alb_deriv.proofs.values.add_up.Given as goal
 
 abbrev pub invariant-loop-c : goal.invariant-loop-c
 invariant-loop-c l = record {
   value : (gs : List Poly) → l.values ≡ map (normal l.rules.field) gs → l.sum ≡ normal l.rules.field (line_value (forms l.rules) gs (Sum (take l.c-index l.items)));
-  fit : IsFit l.rules.target l.sum;
+  fit : IsPolyAtMost l.rules.target l.sum;
   residues : AreResidues l.rules.field l.sum;
 }

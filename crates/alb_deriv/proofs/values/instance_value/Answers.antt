@@ -1,5 +1,5 @@
 use Rattle.std.proofs.Common.{◌<◌, arith, sym, length}
-use Rattle.alb_poly.specs.Rules.{form}
+use Rattle.alb_poly.specs.Consequence.{form}
 use Rattle.alb_deriv.proofs.LineLemmas.{place-found, linearized_of, low-together, below-26, value-fit}
 use Rattle.alb_deriv.proofs.values.instance_value.Goals as goal
 

@@ -3,9 +3,8 @@ use Rattle.std.specs.List.{list_any}
 use Rattle.gf_sums.specs.Sums.{reindex}
 use Rattle.std.proofs.lemmas.Bool.{cases_lt}
 use Rattle.std.proofs.lemmas.List.{get_or_default}
-use Rattle.alb_mono.specs.Mono.{tree}
-use Rattle.alb_mono.specs.Tree.{count, listed, type_le}
-use Rattle.alb_poly.specs.Context.{beside}
+use Rattle.alb_mono.specs.Tree.{tree, count, listed, type_le}
+use Rattle.alb_poly.specs.Consequence.{beside}
 use Rattle.alb_poly.specs.Poly.{Poly}
 use Rattle.alb_deriv.proofs.Fits.{passes}
 use Rattle.alb_deriv.proofs.LineLemmas.{passed-none, passed-some}

@@ -1,6 +1,5 @@
 use Rattle.std.proofs.Common.{◌≡◌, ◌<◌, ◌+◌, ℕ, true, get_or, length}
-use Rattle.alb_mono.specs.Mono.{tree}
-use Rattle.alb_mono.specs.Tree.{count, type_le, listed}
+use Rattle.alb_mono.specs.Tree.{tree, count, type_le, listed}
 use Rattle.alb_poly.specs.declared.term.Term.{Term}
 use Rattle.alb_deriv.proofs.values.is_passed.Given as goal
 

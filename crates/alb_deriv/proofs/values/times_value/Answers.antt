@@ -1,10 +1,9 @@
 use Rattle.std.proofs.Common.{◌∙◌, length, sym, subst, refl}
-use Rattle.alb_mono.specs.Mono.{tree}
+use Rattle.alb_mono.specs.Tree.{tree}
 use Rattle.alb_mono.proofs.Leaves.{below_from_test}
-use Rattle.alb_poly.specs.Context.{beside}
+use Rattle.alb_poly.specs.Consequence.{beside, forms}
 use Rattle.alb_poly.specs.Poly.{AreResidues}
-use Rattle.alb_poly.specs.Rules.{forms}
-use Rattle.alb_deriv.specs.Answers.{IsFit}
+use Rattle.alb_deriv.specs.Answers.{IsPolyAtMost}
 use Rattle.alb_deriv.proofs.LineLemmas.{place-found, table-positive, times-judged, beside-fit, beside-low, below-more, residues-reindex}
 use Rattle.alb_deriv.proofs.values.times_value.Goals as goal
 
@@ -17,7 +16,7 @@ returns-then-is_passed-clause-value c = λ gs e.
 pub mul_mono-requires-clause-small : goal.mul_mono-requires-clause-small
 mul_mono-requires-clause-small c =
     let q = place-found (length c.args.values.now) c.args.k c.in-Some.at c.in-Some.ensures in
-    let fit = subst (IsFit c.args.rules.now.target) (sym c.index-values-at.is) (c.requires.fit c.in-Some.at c.index-values-at.result q.below) in
+    let fit = subst (IsPolyAtMost c.args.rules.now.target) (sym c.index-values-at.is) (c.requires.fit c.in-Some.at c.index-values-at.result q.below) in
     beside-low c.args.rules.now.target (c.args.side, tree c.args.m.now) c.index-values-at.result c.requires.rules.low (below_from_test _ (tree c.args.m.now) c.requires.known) c.requires.small fit
     (sym (c.if-is_passed.ensures c.args.side))
 
@@ -33,8 +32,8 @@ returns-in-Ok-clause-value c = λ gs e.
 pub returns-in-Ok-clause-fit : goal.returns-in-Ok-clause-fit
 returns-in-Ok-clause-fit c =
     let q = place-found (length c.args.values.now) c.args.k c.in-Some.at c.in-Some.ensures in
-    let fit = subst (IsFit c.args.rules.now.target) (sym c.index-values-at.is) (c.requires.fit c.in-Some.at c.index-values-at.result q.below) in
-    subst (IsFit c.args.rules.now.target) (sym c.in-Ok.ensures)
+    let fit = subst (IsPolyAtMost c.args.rules.now.target) (sym c.index-values-at.is) (c.requires.fit c.in-Some.at c.index-values-at.result q.below) in
+    subst (IsPolyAtMost c.args.rules.now.target) (sym c.in-Ok.ensures)
     (beside-fit c.args.rules.now.target (c.args.side, tree c.args.m.now) c.index-values-at.result (below_from_test _ (tree c.args.m.now) c.requires.known) fit (sym (c.if-is_passed.ensures c.args.side)))
 
 pub returns-in-Ok-clause-residues : goal.returns-in-Ok-clause-residues

@@ -2,7 +2,7 @@ use Rattle.std.proofs.Common.{List, map, arith, refl}
 use Rattle.std.specs.List.{flat_map}
 use Rattle.std.proofs.lemmas.List.{at_drop_all}
 use Rattle.alb_mono.specs.declared.mono.Mono.{Mono}
-use Rattle.alb_mono.specs.Mono.{tree}
+use Rattle.alb_mono.specs.Tree.{tree}
 use Rattle.alb_evidence.specs.Texts.{spaced_mono}
 use Rattle.alb_print.proofs.Pieces.{flat-map-at}
 use Rattle.alb_io.proofs.Writers.{Writes-exit, Writing-start, Writing-more, Writing-fails, Writing-all}

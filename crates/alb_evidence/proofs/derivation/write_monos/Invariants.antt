@@ -1,6 +1,6 @@
 use Rattle.std.proofs.Common.{drop, map}
 use Rattle.std.specs.List.{flat_map}
-use Rattle.alb_mono.specs.Mono.{tree}
+use Rattle.alb_mono.specs.Tree.{tree}
 use Rattle.alb_evidence.specs.Texts.{spaced_mono}
 use Rattle.alb_io.proofs.Writers.{Writing}
 use Rattle.alb_evidence.proofs.derivation.write_monos.Given as goal

@@ -1,6 +1,5 @@
 use Rattle.std.proofs.Common.{◌≡◌, ◌<◌, ◌++◌, All, length, Ok}
-use Rattle.alb_evidence.specs.Words.{words}
-use Rattle.alb_evidence.specs.Block.{items, ◌>>=◌}
+use Rattle.alb_evidence.specs.Block.{words, items, ◌>>=◌}
 use Rattle.alb_evidence.proofs.lines.items.Given as goal
 
 abbrev pub invariant-words : goal.invariant-words

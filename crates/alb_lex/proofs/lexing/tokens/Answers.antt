@@ -1,6 +1,6 @@
 use Rattle.std.proofs.Common.{◌≡◌, ◌+◌, false, drop, length, sym, ◌∙◌, ap, subst, arith}
 use Rattle.std.proofs.lemmas.List.{length-drop}
-use Rattle.alb_lex.specs.Lexing.{tokens_from, run, value_after}
+use Rattle.alb_lex.specs.Lexing.{tokens_from, digit_run, value_after}
 use Rattle.alb_lex.proofs.Steps.{Goes, cut, after_blank, after_number_at, at_long, after_single, at_bad, at_end, run_positive}
 use Rattle.alb_lex.proofs.lexing.tokens.Goals as goal
 
@@ -14,7 +14,7 @@ pub returns-then-digits-gt18 : goal.returns-then-digits-gt18
 returns-then-digits-gt18 c =
     let here = cut c.args.line.now c.loop-at.at c.loop-at-test.true in
     let so_far = subst (Goes _ c.loop-at.out.items (c.loop-at.at + 1)) here c.loop-at.invariant.so_far in
-    let digits = c.run-digits.ensures.value ∙ ap run (c.text_from-text.ensures ∙ here) in
+    let digits = c.run-digits.ensures.value ∙ ap digit_run (c.text_from-text.ensures ∙ here) in
     at_long _ _ _ _ _ so_far (sym c.is_ascii_digit.ensures.value ∙ c.if-is_ascii_digit.true) (omega (arith, digits, c.if-digits-gt18.true))
 
 pub loop-at-preserved-then-is_ascii_digit : goal.loop-at-preserved-then-is_ascii_digit
@@ -22,7 +22,7 @@ loop-at-preserved-then-is_ascii_digit c =
     let text = drop c.loop-at.at c.args.line.now in
     let here = cut c.args.line.now c.loop-at.at c.loop-at-test.true in
     let is_text = c.text_from-text.ensures in
-    let digits : c.run-digits.result ≡ run text = c.run-digits.ensures.value ∙ ap run is_text in
+    let digits : c.run-digits.result ≡ digit_run text = c.run-digits.ensures.value ∙ ap digit_run is_text in
     let value : c.number.result ≡ value_after 0 text = c.number.ensures ∙ ap (value_after 0) is_text in
     record {
       within = omega (arith, c.run-digits.ensures.bound, ap length is_text, length-drop c.loop-at.at c.args.line.now);
@@ -50,5 +50,5 @@ returns c = at_end _ _ _ _ c.loop-at.invariant.so_far (omega (arith, length-drop
 
 pub loop-at-smaller-then-is_ascii_digit : goal.loop-at-smaller-then-is_ascii_digit
 loop-at-smaller-then-is_ascii_digit c =
-    let digits : c.run-digits.result ≡ run (drop c.loop-at.at c.args.line.now) = c.run-digits.ensures.value ∙ ap run c.text_from-text.ensures in
+    let digits : c.run-digits.result ≡ digit_run (drop c.loop-at.at c.args.line.now) = c.run-digits.ensures.value ∙ ap digit_run c.text_from-text.ensures in
     omega (arith, run_positive c.args.line.now c.loop-at.at c.loop-at-test.true (sym c.is_ascii_digit.ensures.value ∙ c.if-is_ascii_digit.true))

@@ -1,6 +1,6 @@
 use Rattle.std.proofs.Common.{◌≡◌, map, take}
 use Rattle.gf_sums.specs.Sums.{reindex}
-use Rattle.alb_mono.specs.Mono.{tree}
+use Rattle.alb_mono.specs.Tree.{tree}
 use Rattle.alb_poly.specs.Terms.{terms}
 use Rattle.alb_poly.specs.Instance.{fill}
 use Rattle.alb_linear.proofs.instances.filled_terms.Given as goal

@@ -1,7 +1,7 @@
 use Rattle.std.proofs.Common.{◌∙◌, length, map, sym, subst}
 use Rattle.std.proofs.lemmas.List.{length-map}
 use Rattle.alb_mono.specs.Listing.{Each}
-use Rattle.alb_mono.specs.Mono.{tree}
+use Rattle.alb_mono.specs.Tree.{tree}
 use Rattle.alb_poly.specs.Poly.{AreResidues}
 use Rattle.alb_poly.specs.Instance.{fill, IsMultilinear}
 use Rattle.alb_linear.proofs.LinearLemmas.{position-terms, small-terms, known-terms, all-trees, total-degrees, coefficients, residues-reindex}

@@ -1,6 +1,5 @@
 use Rattle.std.proofs.Common.{◌≡◌, ◌<◌, ◌+◌, length, get_or, map, ap, subst, arith, IfOk}
-use Rattle.alb_mono.specs.Mono.{tree}
-use Rattle.alb_mono.specs.Tree.{count, degree, leaf, node}
+use Rattle.alb_mono.specs.Tree.{tree, count, degree, leaf, node}
 use Rattle.alb_poly.specs.Instance.{fill, numbered}
 use Rattle.alb_linear.proofs.LinearLemmas.{placed_both, both_below, degree-pos}
 use Rattle.alb_linear.proofs.linearization.+placed.Goals as goal

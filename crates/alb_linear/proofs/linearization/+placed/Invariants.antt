@@ -1,5 +1,4 @@
-use Rattle.alb_mono.specs.Tree.{degree}
-use Rattle.alb_mono.specs.Mono.{tree}
+use Rattle.alb_mono.specs.Tree.{degree, tree}
 use Rattle.alb_linear.proofs.linearization.+placed.Given as goal
 
 abbrev pub decreases-placed : goal.decreases-placed

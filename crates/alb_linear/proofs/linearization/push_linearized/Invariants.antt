@@ -1,6 +1,5 @@
 use Rattle.std.proofs.Common.{◌≡◌, ◌++◌, map, take, get_or}
-use Rattle.alb_mono.specs.Mono.{tree}
-use Rattle.alb_mono.specs.Tree.{leaf}
+use Rattle.alb_mono.specs.Tree.{tree, leaf}
 use Rattle.alb_poly.specs.Terms.{terms}
 use Rattle.alb_poly.specs.Instance.{fill, numbered}
 use Rattle.alb_linear.proofs.linearization.push_linearized.Given as goal

@@ -1,5 +1,5 @@
 use Rattle.std.proofs.Common.{arith}
-use Rattle.alb_mono.specs.Mono.{tree}
+use Rattle.alb_mono.specs.Tree.{tree}
 use Rattle.alb_poly.proofs.Items.{degree_at, degree_beside, below_beside}
 use Rattle.alb_poly.proofs.lists.all_beside.Goals as goal
 

@@ -1,7 +1,7 @@
 use Rattle.std.proofs.Common.{◌≡◌, take}
 use Rattle.gf_sums.specs.Sums.{reindex}
-use Rattle.alb_mono.specs.Mono.{tree}
-use Rattle.alb_poly.specs.Context.{beside}
+use Rattle.alb_mono.specs.Tree.{tree}
+use Rattle.alb_poly.specs.Consequence.{beside}
 use Rattle.alb_poly.specs.Terms.{terms}
 use Rattle.alb_poly.proofs.lists.all_beside.Given as goal
 

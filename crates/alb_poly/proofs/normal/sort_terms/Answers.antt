@@ -1,7 +1,7 @@
 use Rattle.std.proofs.Common.{rules}
 use Rattle.std.proofs.lemmas.List.Sorted.{answers_always, ranks_by, IsStrictWeakOrder-flip}
 use Rattle.alb_mono.proofs.Order.{cmp_monos_total}
-use Rattle.alb_mono.specs.Mono.{tree}
+use Rattle.alb_mono.specs.Tree.{tree}
 use Rattle.alb_poly.specs.Sorted.{comes_first}
 use Rattle.alb_poly.proofs.normal.sort_terms.Goals as goal
 

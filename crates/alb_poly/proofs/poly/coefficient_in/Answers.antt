@@ -1,6 +1,5 @@
 use Rattle.std.proofs.Common.{◌≡◌, ◌∙◌, sym, ap, arith, true, get_or, subst}
-use Rattle.alb_mono.specs.Mono.{tree}
-use Rattle.alb_mono.specs.Tree.{same_tree}
+use Rattle.alb_mono.specs.Tree.{tree, same_tree}
 use Rattle.alb_poly.specs.Terms.{terms}
 use Rattle.alb_poly.proofs.Falling.{descending-falls, coefficient_index, coefficient_none}
 use Rattle.alb_poly.proofs.poly.coefficient_in.Goals as goal

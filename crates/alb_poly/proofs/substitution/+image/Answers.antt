@@ -1,7 +1,7 @@
 use Rattle.std.proofs.Common.{◌≡◌, ◌<◌, length}
 use Rattle.std.proofs.lemmas.Bool.{ltb-true}
-use Rattle.alb_mono.specs.Mono.{tree}
-use Rattle.alb_poly.specs.Normal.{normal}
+use Rattle.alb_mono.specs.Tree.{tree}
+use Rattle.alb_poly.specs.Poly.{normal}
 use Rattle.alb_poly.proofs.Images.{value_of, images_small, image_itself, product_values}
 use Rattle.alb_poly.proofs.substitution.+image.Goals as goal
 

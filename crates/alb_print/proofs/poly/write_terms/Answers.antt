@@ -3,8 +3,7 @@ use Rattle.std.specs.Prelude.{All, IsTrue}
 use Rattle.std.specs.List.{flat_map}
 use Rattle.std.proofs.lemmas.List.Elements.{All-drop}
 use Rattle.alb_io.proofs.Writers.{Writes-exit, Writes-more, Writes-then, Writes-text}
-use Rattle.alb_mono.specs.Mono.{tree}
-use Rattle.alb_mono.specs.Tree.{are_below}
+use Rattle.alb_mono.specs.Tree.{tree, are_below}
 use Rattle.alb_poly.specs.Terms.{terms}
 use Rattle.alb_poly.specs.declared.term.Term.{Term}
 use Rattle.alb_print.specs.Text.{later_text}

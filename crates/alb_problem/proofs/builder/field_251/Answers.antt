@@ -1,5 +1,5 @@
 use Rattle.std.proofs.Common.{refl}
-use Rattle.gf_field.specs.Primes.{is_in_table, primes}
+use Rattle.gf_field.specs.Modular.{is_in_table, primes}
 use Rattle.alb_problem.proofs.builder.field_251.Goals as goal
 
 pub unreachable-requires : goal.unreachable-requires

@@ -1,15 +1,13 @@
 use Rattle.std.proofs.Common.{◌≤◌, ℕ, length, sym, subst, arith}
 use Rattle.std.specs.Prelude.{IsTrue, All}
-use Rattle.alb_mono.specs.Mono.{tree}
-use Rattle.alb_mono.specs.Tree.{Tree, are_below}
+use Rattle.alb_mono.specs.Tree.{tree, Tree, are_below}
 use Rattle.alb_poly.specs.Poly.{Poly, greatest_degree}
-use Rattle.alb_poly.specs.Rules.{forms}
+use Rattle.alb_poly.specs.Consequence.{forms}
 use Rattle.alb_table.proofs.FirstLemmas.{few_generators}
 use Rattle.alb_table.specs.Laws.{HasValue, DecidesByRow}
-use Rattle.alb_table.specs.PartView.{elems, mono_at}
-use Rattle.alb_table.specs.RightFor.{rules_view}
-use Rattle.alb_table.specs.Table.{Table}
-use Rattle.alb_table.specs.Value.{IsVector, table_value}
+use Rattle.alb_table.specs.Table.{elems, mono_at, Table}
+use Rattle.alb_table.specs.RightTable.{rules_view}
+use Rattle.alb_table.specs.Value.{IsBasisRow, table_value}
 use Rattle.alb_table.proofs.RightForLemmas.{right-positive}
 use Rattle.alb_table.proofs.TableValues.{empty-consequence, values-decide}
 use Rattle.alb_rows.specs.Row.{Cells, comb, AreSameVector}
@@ -41,7 +39,7 @@ returns-then-degree c =
     }
 
 -- the value as a row
-valued : (t : Table) (g : Poly) (cells : Cells) → IsVector t.p (length (elems t.parts)) cells → AreSameVector t.p (comb cells) (table_value t g) → HasValue t g cells
+valued : (t : Table) (g : Poly) (cells : Cells) → IsBasisRow t.p (length (elems t.parts)) cells → AreSameVector t.p (comb cells) (table_value t g) → HasValue t g cells
 valued t g cells row value = record { row = row; value = value }
 
 pub returns-then-is_zero : goal.returns-then-is_zero

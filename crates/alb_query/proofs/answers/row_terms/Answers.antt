@@ -1,7 +1,7 @@
 use Rattle.std.proofs.Common.{sym, subst}
 use Rattle.std.specs.Prelude.{IsTrue, ◌≤◌}
 use Rattle.alb_mono.specs.Tree.{degree, are_below}
-use Rattle.alb_table.specs.RightFor.{rules_view}
+use Rattle.alb_table.specs.RightTable.{rules_view}
 use Rattle.alb_table.proofs.TableValues.{mono-degree, mono-letters}
 use Rattle.alb_query.proofs.ValueLemmas.{column-at}
 use Rattle.alb_query.proofs.answers.row_terms.Goals as goal

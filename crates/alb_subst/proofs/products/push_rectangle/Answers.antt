@@ -1,6 +1,6 @@
 use Rattle.std.proofs.Common.{◌∙◌, ◌+◌, ◌++◌, map, sym, ap, append_assoc}
-use Rattle.alb_mono.specs.Types.{rising}
-use Rattle.alb_table.specs.Grid.{rectangle}
+use Rattle.alb_mono.specs.Tree.{rising}
+use Rattle.alb_table.specs.Table.{rectangle}
 use Rattle.alb_subst.proofs.ProductLemmas.{rectangle_more}
 use Rattle.alb_subst.proofs.products.push_rectangle.Goals as goal
 

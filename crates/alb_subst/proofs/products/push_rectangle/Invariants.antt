@@ -1,5 +1,5 @@
 use Rattle.std.proofs.Common.{◌≡◌, ◌++◌}
-use Rattle.alb_table.specs.Grid.{rectangle}
+use Rattle.alb_table.specs.Table.{rectangle}
 use Rattle.alb_subst.proofs.products.push_rectangle.Given as goal
 
 abbrev pub invariant-loop-k : goal.invariant-loop-k

@@ -1,5 +1,5 @@
 use Rattle.std.proofs.Common.{◌∙◌, ◌+◌, ◌++◌, ◌∷◌, [], map, sym, ap, append_assoc}
-use Rattle.alb_mono.specs.Types.{rising}
+use Rattle.alb_mono.specs.Tree.{rising}
 use Rattle.alb_subst.proofs.ProductLemmas.{row_more}
 use Rattle.alb_subst.proofs.products.push_row.Goals as goal
 

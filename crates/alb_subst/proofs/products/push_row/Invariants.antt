@@ -1,5 +1,5 @@
 use Rattle.std.proofs.Common.{◌≡◌, ◌++◌, map}
-use Rattle.alb_mono.specs.Types.{rising}
+use Rattle.alb_mono.specs.Tree.{rising}
 use Rattle.alb_subst.proofs.products.push_row.Given as goal
 
 abbrev pub invariant-loop-k : goal.invariant-loop-k

@@ -1,5 +1,5 @@
 use Rattle.std.proofs.Common.{◌∙◌, ◌+◌, ◌++◌, sym, ap, arith, map}
-use Rattle.alb_mono.specs.Types.{types_of}
+use Rattle.alb_mono.specs.Tree.{types_of}
 use Rattle.alb_subst.specs.Ranges.{range_of}
 use Rattle.alb_subst.proofs.RangeLemmas.{ranges_more}
 use Rattle.alb_subst.proofs.range.ranges.Goals as goal

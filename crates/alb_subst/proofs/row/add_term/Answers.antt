@@ -1,6 +1,6 @@
-use Rattle.alb_mono.specs.Mono.{tree}
+use Rattle.alb_mono.specs.Tree.{tree}
 use Rattle.alb_rows.specs.Row.{comb}
-use Rattle.alb_table.specs.Entry.{table_product}
+use Rattle.alb_table.specs.Table.{table_product}
 use Rattle.alb_table.specs.Held.{cells_in}
 use Rattle.alb_table.specs.Value.{vectors}
 use Rattle.alb_subst.proofs.InstanceLemmas.{adds_product}

@@ -2,15 +2,14 @@ use Rattle.std.proofs.Common.{rules, ◌≡◌, ◌<◌, ◌∙◌, ◌++◌, sy
 use Rattle.std.proofs.lemmas.List.{take_all, length-map}
 use Rattle.gf_sums.specs.Sums.{scale}
 use Rattle.alb_mono.specs.Listing.{Each}
-use Rattle.alb_mono.specs.Mono.{tree}
-use Rattle.alb_poly.specs.Rules.{form}
+use Rattle.alb_mono.specs.Tree.{tree}
+use Rattle.alb_poly.specs.Consequence.{form}
 use Rattle.alb_poly.specs.Terms.{terms}
 use Rattle.alb_table.specs.Block.{image, spread}
-use Rattle.alb_table.specs.Entry.{table_product}
-use Rattle.alb_table.specs.PartView.{elems}
-use Rattle.alb_table.specs.Value.{IsVector, vectors}
+use Rattle.alb_table.specs.Table.{table_product, elems}
+use Rattle.alb_table.specs.Value.{IsBasisRow, vectors}
 use Rattle.alb_rows.specs.Row.{Cells}
-use Rattle.alb_subst.specs.Sums.{Adds}
+use Rattle.alb_subst.specs.Sums.{AddsAtColumns}
 use Rattle.alb_subst.proofs.InstanceLemmas.{pair, unit_row, unit_vectors, positions_known, residue_known, adds_zeros, zero_residues, kept_whole, adds_term, adds_instance}
 use Rattle.alb_linear.proofs.LinearLemmas.{each_from_all}
 use Rattle.alb_subst.proofs.row.instance_sums.Goals as goal
@@ -29,7 +28,7 @@ pub add_term-requires-clause-vectors : goal.add_term-requires-clause-vectors
 add_term-requires-clause-vectors c =
     let e = c.deref.ensures.value ∙ c.in_ok-rows.ensures in
     let h = c.p.ensures.above_one in let f = c.field.ensures in
-    subst (λ (rs : List Cells). Each (IsVector c.args.tables.now.p (length (elems c.args.tables.now.parts))) rs) (sym e)
+    subst (λ (rs : List Cells). Each (IsBasisRow c.args.tables.now.p (length (elems c.args.tables.now.parts))) rs) (sym e)
     (unit_vectors c.args.tables.now.p (length (elems c.args.tables.now.parts)) c.args.tuple.now (omega (arith, h, f))
     (each_from_all (λ b. b < length (elems c.args.tables.now.parts)) c.args.tuple.now c.requires.numbers))
 
@@ -51,7 +50,7 @@ loop-t-preserved c =
     let w : take c.loop-t.sums.len (c.add_term.new.sums ++ drop (length c.add_term.new.sums) c.loop-t.sums.items) ≡ c.add_term.new.sums =
     kept_whole c.loop-t.sums.len c.loop-t.sums.items c.add_term.new.sums a (search rules) in
     let v = c.deref.ensures.value in
-    let t = subst (λ (ys : List ℕ). Adds c.args.tables.now.p c.args.columns.now ys c.add_term.new.sums (scale c.t-item.result.coef (image pair (table_product c.args.tables.now.parts) (vectors c.deref.result.now) (tree c.t-item.result.mono)))) c.deref_mut.ensures.value c.in_ok-add_term.ensures.adds in
+    let t = subst (λ (ys : List ℕ). AddsAtColumns c.args.tables.now.p c.args.columns.now ys c.add_term.new.sums (scale c.t-item.result.coef (image pair (table_product c.args.tables.now.parts) (vectors c.deref.result.now) (tree c.t-item.result.mono)))) c.deref_mut.ensures.value c.in_ok-add_term.ensures.adds in
     rw w (record {
       len = a ∙ c.loop-t.invariant.len;
       residues = c.in_ok-add_term.ensures.residues;
@@ -66,5 +65,5 @@ returns-clause-adds c =
     ap terms (take_all c.loop-t.t-index c.terms-t-items.result.now (omega arith)) ∙ c.terms-t-items.ensures.value in
     adds_instance c.args.tables.now.p c.args.columns.now (replicate (length c.args.columns.now) 0) c.loop-t.sums.items c.args.tables.now.parts (form c.args.f.now) c.args.tuple.now c.in_ok-rows.rows.items
     c.requires.form.multilinear c.requires.full c.in_ok-rows.ensures
-    (subst (λ g. Adds c.args.tables.now.p c.args.columns.now (replicate (length c.args.columns.now) 0) c.loop-t.sums.items
+    (subst (λ g. AddsAtColumns c.args.tables.now.p c.args.columns.now (replicate (length c.args.columns.now) 0) c.loop-t.sums.items
     (spread (image pair (table_product c.args.tables.now.parts) (vectors c.in_ok-rows.rows.items)) g)) e c.loop-t.invariant.adds)

@@ -1,7 +1,7 @@
 use Rattle.std.proofs.Common.{◌∙◌, sym}
 use Rattle.alb_lex.proofs.Binds.{ok_is}
 use Rattle.alb_syntax.proofs.Monomials.{mono-again, mono_denoted-spelled}
-use Rattle.alb_syntax.specs.Monomials.{Lettering}
+use Rattle.alb_syntax.specs.Reading.{Lettering}
 use Rattle.alb_syntax.proofs.laws.monomials.Goals as goal
 
 pub returns-clause-read : goal.returns-clause-read

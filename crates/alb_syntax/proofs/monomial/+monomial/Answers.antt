@@ -1,8 +1,8 @@
 use Rattle.std.proofs.Common.{sym, ap, ◌∙◌}
 use Rattle.std.proofs.lemmas.Result.{err_from_is_err_and}
-use Rattle.alb_mono.specs.Mono.{tree}
+use Rattle.alb_mono.specs.Tree.{tree}
 use Rattle.alb_syntax.specs.Lettering.{lettering}
-use Rattle.alb_syntax.specs.Monomials.{begins_part, next_part, nested}
+use Rattle.alb_syntax.specs.Reading.{begins_part, next_part, nested}
 use Rattle.alb_syntax.proofs.Turns.{goes_on, fails, stops}
 use Rattle.alb_syntax.proofs.Monomials.{part-is, nested-shrinks}
 use Rattle.alb_syntax.proofs.monomial.+monomial.Goals as goal

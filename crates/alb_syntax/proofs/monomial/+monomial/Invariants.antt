@@ -1,10 +1,8 @@
 -- The measure: how deep brackets may still nest, and at one depth the place in the grammar.
 use Rattle.std.proofs.Common.{◌≡◌, ◌*◌, ◌+◌, ◌≤◌, length}
-use Rattle.alb_mono.specs.Mono.{tree}
-use Rattle.alb_mono.specs.Tree.{degree}
+use Rattle.alb_mono.specs.Tree.{tree, degree}
 use Rattle.alb_syntax.specs.Lettering.{lettering}
-use Rattle.alb_syntax.specs.Reading.{each}
-use Rattle.alb_syntax.specs.Monomials.{begins_part, next_part, mono, nested}
+use Rattle.alb_syntax.specs.Reading.{each, begins_part, next_part, mono, nested}
 use Rattle.alb_syntax.proofs.monomial.+monomial.Given as goal
 
 abbrev pub decreases-mono : goal.decreases-mono

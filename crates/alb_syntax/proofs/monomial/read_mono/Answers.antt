@@ -1,5 +1,5 @@
 use Rattle.std.proofs.Common.{subst}
-use Rattle.alb_mono.specs.Mono.{tree}
+use Rattle.alb_mono.specs.Tree.{tree}
 use Rattle.alb_syntax.specs.Gives.{Gives}
 use Rattle.alb_syntax.proofs.Monomials.{mono-again, mono-is_spelled, spelled-low, spelled-known}
 use Rattle.alb_syntax.proofs.monomial.read_mono.Goals as goal

@@ -1,10 +1,10 @@
 use Rattle.std.proofs.Common.{sym, subst, arith}
-use Rattle.alb_syntax.specs.Operations.{IsKept}
+use Rattle.alb_syntax.specs.Reading.{IsCanonicalPoly}
 use Rattle.alb_syntax.proofs.Kept.{kept-generator, table-above_one}
 use Rattle.alb_syntax.proofs.operations.generator.Goals as goal
 
 pub returns-clause-kept : goal.returns-clause-kept
-returns-clause-kept c = subst (IsKept c.args.field.now) (sym c.in_ok-f.ensures) (kept-generator c.args.field.now c.args.k c.p-p.ensures.listed)
+returns-clause-kept c = subst (IsCanonicalPoly c.args.field.now) (sym c.in_ok-f.ensures) (kept-generator c.args.field.now c.args.k c.p-p.ensures.listed)
 
 pub prove-unreachable-requires : goal.prove-unreachable-requires
 prove-unreachable-requires c = let one = table-above_one c.args.field.now c.p-p.ensures.listed in omega arith

@@ -1,9 +1,8 @@
 use Rattle.std.proofs.Common.{◌≡◌, ◌<◌, ◌%◌, Ok, sym, ap, subst, ◌∙◌, arith}
 use Rattle.std.proofs.Math.Nat.{mod-lt}
 use Rattle.gf_sums.specs.Sums.{scale}
-use Rattle.alb_poly.specs.Poly.{Poly}
-use Rattle.alb_poly.specs.Normal.{normal}
-use Rattle.alb_syntax.specs.Operations.{IsKept, multiple}
+use Rattle.alb_poly.specs.Poly.{Poly, normal}
+use Rattle.alb_syntax.specs.Reading.{IsCanonicalPoly, multiple}
 use Rattle.alb_syntax.proofs.Kept.{kept-multiple, table-above_one, table-small, kept-residues, multiple-mod}
 use Rattle.alb_syntax.proofs.operations.multiple.Goals as goal
 
@@ -40,4 +39,4 @@ returns-clause-kept c =
     let one = table-above_one c.args.field.now c.p.ensures.listed in
     let e : c.in_ok-h.h ≡ multiple c.args.field.now c.args.n c.args.f.now =
     c.in_ok-h.ensures.value ∙ ap (λ q. normal c.args.field.now (scale (c.args.n % q) c.args.f.now)) c.p.ensures.value ∙ multiple-mod c.args.field.now c.args.n c.args.f.now one in
-    subst (IsKept c.args.field.now) (sym e) (kept-multiple c.args.field.now c.args.n c.args.f.now c.requires)
+    subst (IsCanonicalPoly c.args.field.now) (sym e) (kept-multiple c.args.field.now c.args.n c.args.f.now c.requires)

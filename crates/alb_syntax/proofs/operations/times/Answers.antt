@@ -1,6 +1,6 @@
 use Rattle.std.proofs.Common.{Ok, sym, ap, subst, ◌∙◌, arith}
 use Rattle.alb_poly.specs.Poly.{Poly}
-use Rattle.alb_syntax.specs.Operations.{IsKept}
+use Rattle.alb_syntax.specs.Reading.{IsCanonicalPoly}
 use Rattle.alb_syntax.proofs.Kept.{kept-residues, counts, times-zero, times-high, times-many, times-within, times-kept}
 use Rattle.alb_syntax.proofs.operations.times.Goals as goal
 
@@ -34,4 +34,4 @@ returns-clause-value c =
 pub returns-clause-kept : goal.returns-clause-kept
 returns-clause-kept c =
     let n = counts c.args.field.now c.args.place c.args.f.now c.args.g.now c.requires.left c.requires.right c.terms.result.now c.terms-2.result.now c.terms.ensures.value c.terms-2.ensures.value in
-    subst (IsKept c.args.field.now) (sym c.in_ok-h.ensures.value) (times-kept c.args.field.now c.args.place c.args.f.now c.args.g.now c.requires.left c.requires.right (omega arith))
+    subst (IsCanonicalPoly c.args.field.now) (sym c.in_ok-h.ensures.value) (times-kept c.args.field.now c.args.place c.args.f.now c.args.g.now c.requires.left c.requires.right (omega arith))

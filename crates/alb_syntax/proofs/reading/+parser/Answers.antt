@@ -1,7 +1,6 @@
 use Rattle.std.proofs.Common.{Ok, sym, ap, ◌∙◌}
 use Rattle.std.proofs.lemmas.Result.{err_from_is_err_and}
-use Rattle.alb_poly.specs.Poly.{Poly}
-use Rattle.alb_poly.specs.Normal.{normal}
+use Rattle.alb_poly.specs.Poly.{Poly, normal}
 use Rattle.alb_poly.specs.Terms.{terms}
 use Rattle.alb_syntax.specs.Setting.{setting}
 use Rattle.alb_syntax.specs.Reading.{each, bracketed, begins_atom, is_star, is_sign, factor, star, signed}

@@ -1,10 +1,9 @@
 -- The measure: how deep brackets may still nest, and at one depth the place in the grammar.
 use Rattle.std.proofs.Common.{◌≡◌, ◌*◌, ◌+◌, length}
-use Rattle.alb_poly.specs.Normal.{normal}
+use Rattle.alb_poly.specs.Poly.{normal}
 use Rattle.alb_poly.specs.Terms.{terms}
 use Rattle.alb_syntax.specs.Setting.{setting}
-use Rattle.alb_syntax.specs.Reading.{bracketed, each, begins_atom, is_star, is_sign, factor, juxt, star, jprod, signed}
-use Rattle.alb_syntax.specs.Operations.{IsKept, AreLoose}
+use Rattle.alb_syntax.specs.Reading.{bracketed, each, begins_atom, is_star, is_sign, factor, juxt, star, jprod, signed, IsCanonicalPoly, AreLoose}
 use Rattle.alb_syntax.proofs.reading.+parser.Given as goal
 
 abbrev pub decreases-poly : goal.decreases-poly
@@ -55,7 +54,7 @@ decreases-square l = l.left * 16 + 14
 abbrev pub invariant-juxt-factors : goal.invariant-juxt-factors
 invariant-juxt-factors l = record {
   so_far : each begins_atom (factor (setting l.s) (bracketed (setting l.s) l.left)) l.f l.rest ≡ juxt (setting l.s) (bracketed (setting l.s) l.left) l.tokens;
-  kept : IsKept l.s.field.now l.f;
+  kept : IsCanonicalPoly l.s.field.now l.f;
 }
 
 abbrev pub decreases-juxt-factors : goal.decreases-juxt-factors
@@ -64,7 +63,7 @@ decreases-juxt-factors l = length l.rest
 abbrev pub invariant-jprod-stars : goal.invariant-jprod-stars
 invariant-jprod-stars l = record {
   so_far : each is_star (star (setting l.s) (bracketed (setting l.s) l.left)) l.f l.rest ≡ jprod (setting l.s) (bracketed (setting l.s) l.left) l.tokens;
-  kept : IsKept l.s.field.now l.f;
+  kept : IsCanonicalPoly l.s.field.now l.f;
 }
 
 abbrev pub decreases-jprod-stars : goal.decreases-jprod-stars

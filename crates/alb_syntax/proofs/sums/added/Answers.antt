@@ -1,7 +1,7 @@
 use Rattle.std.proofs.Common.{◌+◌, ◌≤◌, length, Ok, sym, ap, ◌∙◌, arith}
 use Rattle.alb_poly.specs.Poly.{Poly}
 use Rattle.alb_poly.specs.Terms.{terms}
-use Rattle.alb_syntax.specs.Operations.{sum}
+use Rattle.alb_syntax.specs.Reading.{sum}
 use Rattle.alb_lex.proofs.Binds.{ok_is}
 use Rattle.alb_syntax.proofs.Kept.{length-terms, poly-length}
 use Rattle.alb_syntax.proofs.Loose.{loose-terms, normal-terms, appended-loose, sum-appended}

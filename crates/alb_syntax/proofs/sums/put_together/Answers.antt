@@ -1,7 +1,7 @@
 use Rattle.std.proofs.Common.{sym, subst}
 use Rattle.alb_poly.specs.Terms.{terms}
 use Rattle.alb_poly.proofs.Items.{coefs_below}
-use Rattle.alb_syntax.specs.Operations.{IsKept}
+use Rattle.alb_syntax.specs.Reading.{IsCanonicalPoly}
 use Rattle.alb_syntax.proofs.Loose.{together-kept}
 use Rattle.alb_syntax.proofs.sums.put_together.Goals as goal
 
@@ -9,4 +9,4 @@ pub from_terms-requires : goal.from_terms-requires
 from_terms-requires c = coefs_below c.args.field.now c.args.list.items c.requires.residues
 
 pub returns-clause-kept : goal.returns-clause-kept
-returns-clause-kept c = subst (IsKept c.args.field.now) (sym c.in_ok-f.ensures.value) (together-kept c.args.field.now (terms c.args.list.items) c.requires)
+returns-clause-kept c = subst (IsCanonicalPoly c.args.field.now) (sym c.in_ok-f.ensures.value) (together-kept c.args.field.now (terms c.args.list.items) c.requires)

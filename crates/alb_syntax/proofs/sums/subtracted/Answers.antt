@@ -1,9 +1,8 @@
 use Rattle.std.proofs.Common.{sym, ap, subst, ◌∙◌}
-use Rattle.alb_poly.specs.Poly.{Poly}
-use Rattle.alb_poly.specs.Normal.{normal}
+use Rattle.alb_poly.specs.Poly.{Poly, normal}
 use Rattle.alb_poly.specs.Terms.{terms}
 use Rattle.alb_syntax.specs.Gives.{Gives}
-use Rattle.alb_syntax.specs.Operations.{sum}
+use Rattle.alb_syntax.specs.Reading.{sum}
 use Rattle.alb_lex.proofs.Binds.{ok_is}
 use Rattle.alb_syntax.proofs.Kept.{kept-above_one}
 use Rattle.alb_syntax.proofs.Loose.{difference-sum}

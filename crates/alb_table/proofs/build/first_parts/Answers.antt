@@ -1,5 +1,5 @@
 use Rattle.std.proofs.Common.{rules, ◌≡◌, ap, arith, length}
-use Rattle.alb_mono.specs.Types.{types_of}
+use Rattle.alb_mono.specs.Tree.{types_of}
 use Rattle.alb_table.proofs.FirstLemmas.{first_few}
 use Rattle.alb_table.proofs.build.first_parts.Goals as goal
 

@@ -1,6 +1,5 @@
 use Rattle.std.proofs.Common.{◌≡◌, ◌++◌, drop, map}
-use Rattle.alb_table.specs.PartView.{part_view}
-use Rattle.alb_table.specs.Table.{first_parts}
+use Rattle.alb_table.specs.Table.{part_view, first_parts}
 use Rattle.alb_table.proofs.build.first_parts.Given as goal
 
 abbrev pub invariant-loop-k : goal.invariant-loop-k

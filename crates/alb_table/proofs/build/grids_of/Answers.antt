@@ -1,8 +1,7 @@
 use Rattle.std.proofs.Common.{◌≡◌, ◌∙◌, sym, ap, refl, ◌+◌, ◌*◌, ◌<◌, ◌^◌, drop, map, arith, length, ◌∷◌}
 use Rattle.std.proofs.lemmas.List.{drop_more}
-use Rattle.alb_table.specs.PartView.{dim_of}
-use Rattle.alb_table.specs.Entry.{products_of}
-use Rattle.alb_mono.specs.Types.{splits}
+use Rattle.alb_table.specs.Table.{dim_of, products_of}
+use Rattle.alb_mono.specs.Tree.{splits}
 use Rattle.alb_table.specs.Views.{view_of}
 use Rattle.alb_table.proofs.PartLemmas.{grids_step, products_step}
 use Rattle.alb_table.proofs.build.grids_of.Goals as goal

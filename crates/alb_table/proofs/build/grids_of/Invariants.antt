@@ -1,5 +1,5 @@
 use Rattle.std.proofs.Common.{◌≡◌, ◌+◌, ◌++◌, drop, map, length}
-use Rattle.alb_table.specs.Entry.{products_of}
+use Rattle.alb_table.specs.Table.{products_of}
 use Rattle.alb_table.specs.Stored.{grids_from}
 use Rattle.alb_table.specs.Views.{view_of}
 use Rattle.alb_table.proofs.build.grids_of.Given as goal

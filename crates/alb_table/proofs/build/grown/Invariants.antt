@@ -1,5 +1,5 @@
 use Rattle.std.proofs.Common.{map, vec_len, ◌++◌, reverse}
-use Rattle.alb_table.specs.PartView.{part_view}
+use Rattle.alb_table.specs.Table.{part_view}
 use Rattle.alb_table.specs.Views.{views}
 use Rattle.alb_table.proofs.PartLemmas.{Extends}
 use Rattle.alb_table.proofs.build.grown.Given as goal

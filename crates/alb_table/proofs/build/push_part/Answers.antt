@@ -3,10 +3,10 @@ use Rattle.std.specs.List.{flat_map}
 use Rattle.std.proofs.lemmas.List.{take_all}
 use Rattle.std.specs.declared.sync.Arc.{Arc}
 use Rattle.std.specs.declared.alloc.Global.{Global}
-use Rattle.alb_mono.specs.Types.{splits}
+use Rattle.alb_mono.specs.Tree.{splits}
 use Rattle.alb_table.specs.Grid.{cells_of}
 use Rattle.alb_table.specs.declared.part.Elem.{Elem}
-use Rattle.alb_table.specs.PartView.{part_view}
+use Rattle.alb_table.specs.Table.{part_view}
 use Rattle.alb_table.specs.Views.{view_of}
 use Rattle.alb_table.proofs.PartLemmas.{pushes, cells-grids, offsets-grids}
 use Rattle.alb_table.proofs.build.push_part.Goals as goal

@@ -1,5 +1,5 @@
 use Rattle.std.proofs.Common.{◌≡◌, ◌+◌, drop, map, length}
-use Rattle.alb_table.specs.PartView.{first_of, dim_of, elems}
+use Rattle.alb_table.specs.Table.{first_of, dim_of, elems}
 use Rattle.alb_table.specs.Views.{view_of}
 use Rattle.alb_table.proofs.find.range_of.Given as goal
 

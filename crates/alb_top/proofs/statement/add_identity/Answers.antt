@@ -1,21 +1,19 @@
 use Rattle.std.proofs.Common.{◌≡◌, ◌+◌, ◌++◌, ◌∷◌, [], length, Option, Result, Ok, Err, sym, subst}
 use Rattle.std.specs.Prelude.{IfOk, OnErr}
 use Rattle.alb_mono.specs.declared.error.NoMemory.{NoMemory}
-use Rattle.alb_problem.specs.Builder.{Builder}
-use Rattle.alb_problem.specs.Refusals.{identity_refusal, Refusal}
-use Rattle.alb_top.specs.Response.{Response, Numbered}
-use Rattle.alb_top.specs.Script.{unless}
+use Rattle.alb_problem.specs.Builder.{Builder, identity_refusal, ProblemRefusal}
+use Rattle.alb_top.specs.Script.{Response, Numbered, unless}
 use Rattle.alb_top.specs.View.{response_of, IsWritten}
 use Rattle.alb_top.specs.declared.response.Response as Rust
 use Rattle.alb_top.proofs.RefusalLemmas.{IsRefusal, refused-unless, identity-known}
 use Rattle.alb_top.proofs.statement.add_identity.Goals as goal
 
-record Refuses (r : Result Rust.Response NoMemory) (old now : Builder) (found : Option Refusal) (taken : Response) (new : Builder) : Type 0 where
+record Refuses (r : Result Rust.Response NoMemory) (old now : Builder) (found : Option ProblemRefusal) (taken : Response) (new : Builder) : Type 0 where
   told : IfOk r (λ x. (response_of x, now) ≡ unless found taken new old)
   written : IfOk r (λ x. IsWritten x)
   unchanged : OnErr r (now ≡ old)
 
-split : (r : Result Rust.Response NoMemory) (old now : Builder) (found : Option Refusal) (taken : Response) (new : Builder) → now ≡ old → IfOk r (IsRefusal old found taken new) → Refuses r old now found taken new
+split : (r : Result Rust.Response NoMemory) (old now : Builder) (found : Option ProblemRefusal) (taken : Response) (new : Builder) → now ≡ old → IfOk r (IsRefusal old found taken new) → Refuses r old now found taken new
 split (Ok x) old now found taken new same h = record { told = subst (λ (b : Builder). (response_of x, b) ≡ unless found taken new old) (sym same) h.told; written = h.written; unchanged = tt }
 split (Err e) old now found taken new same h = record { told = tt; written = tt; unchanged = same }
 

@@ -1,10 +1,10 @@
 use Rattle.std.proofs.Common.{ℕ}
 use Rattle.alb_mono.specs.Tree.{Tree}
-use Rattle.alb_poly.specs.Rules.{forms}
+use Rattle.alb_poly.specs.Consequence.{forms}
 use Rattle.alb_poly.proofs.Multilinear.{all_from_each}
 use Rattle.alb_table.specs.Block.{spread}
-use Rattle.alb_table.specs.Right.{IsWithin}
-use Rattle.alb_table.specs.RightFor.{rules_view}
+use Rattle.alb_table.specs.Right.{IsWithinDegree}
+use Rattle.alb_table.specs.RightTable.{rules_view}
 use Rattle.alb_trace.specs.Trace.{lines_of, mono_less}
 use Rattle.alb_trace.proofs.Asked.{answered-within, answered-sum}
 use Rattle.alb_trace.proofs.Ends.{forms-few}
@@ -16,7 +16,7 @@ add_monomials-requires-clause-trace c = c.new-trace.ensures (forms c.args.rules.
 
 pub add_monomials-requires-clause-within : goal.add_monomials-requires-clause-within
 add_monomials-requires-clause-within c =
-    all_from_each (λ (s : ℕ × Tree). IsWithin c.args.tables.now.target c.args.tables.now.degree s.1) c.args.g.now
+    all_from_each (λ (s : ℕ × Tree). IsWithinDegree c.args.tables.now.target c.args.tables.now.degree s.1) c.args.g.now
     (answered-within c.args.tables.now.p (forms c.args.rules.now) c.args.tables.now.target c.args.tables.now.degree c.args.g.now c.requires.zero)
 
 pub returns : goal.returns

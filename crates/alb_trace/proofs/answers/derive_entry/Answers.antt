@@ -1,4 +1,4 @@
-use Rattle.alb_poly.specs.Rules.{forms}
+use Rattle.alb_poly.specs.Consequence.{forms}
 use Rattle.alb_trace.specs.Trace.{product_less}
 use Rattle.alb_trace.proofs.Asked.{product-of}
 use Rattle.alb_trace.proofs.Ends.{forms-few}

@@ -1,5 +1,5 @@
-use Rattle.alb_mono.specs.Mono.{tree}
-use Rattle.alb_poly.specs.Rules.{forms}
+use Rattle.alb_mono.specs.Tree.{tree}
+use Rattle.alb_poly.specs.Consequence.{forms}
 use Rattle.alb_trace.specs.Trace.{mono_less}
 use Rattle.alb_trace.proofs.Ends.{forms-few}
 use Rattle.alb_trace.proofs.answers.derive_monomial.Goals as goal

@@ -1,6 +1,6 @@
 use Rattle.std.proofs.Common.{◌≡◌, ◌+◌, ◌∙◌, List, Some, ap, sym, subst, take, length, ℕ}
 use Rattle.std.specs.Prelude.{IfSome}
-use Rattle.alb_mono.specs.Mono.{tree}
+use Rattle.alb_mono.specs.Tree.{tree}
 use Rattle.alb_mono.proofs.Leaves.{length-type_of}
 use Rattle.alb_poly.specs.Terms.{term, terms}
 use Rattle.alb_trace.specs.FirstType.{HasFirst, or_earlier}

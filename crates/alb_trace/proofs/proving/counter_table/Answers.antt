@@ -2,7 +2,7 @@ use Rattle.std.proofs.Common.{◌≡◌, ◌∙◌, ap, sym, subst, length}
 use Rattle.std.specs.Prelude.{IsTrue, All}
 use Rattle.std.proofs.lemmas.Result.{IfOk-weaker}
 use Rattle.alb_mono.specs.Tree.{are_below}
-use Rattle.alb_poly.specs.Rules.{forms}
+use Rattle.alb_poly.specs.Consequence.{forms}
 use Rattle.alb_poly.specs.Terms.{terms}
 use Rattle.alb_query.proofs.AnswerLemmas.{all-terms}
 use Rattle.alb_check.specs.Raw.{raw}

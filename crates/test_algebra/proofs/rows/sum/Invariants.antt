@@ -1,5 +1,5 @@
-use Rattle.alb_rows.specs.Row.{AreResidues}
+use Rattle.alb_rows.specs.Row.{AreCellResidues}
 use Rattle.test_algebra.proofs.rows.sum.Given as goal
 
 abbrev pub invariant-loop-column : goal.invariant-loop-column
-invariant-loop-column l = AreResidues l.field l.row
+invariant-loop-column l = AreCellResidues l.field l.row

@@ -1,7 +1,7 @@
 use Rattle.std.proofs.Common.{ap, ◌∙◌, sym, refl, Some, subst}
 use Rattle.alb_poly.specs.declared.rules.Rules.{Rules}
 use Rattle.alb_table.specs.End.{end_of}
-use Rattle.alb_table.specs.RightFor.{rules_view}
+use Rattle.alb_table.specs.RightTable.{rules_view}
 use Rattle.alb_board.specs.declared.kept.Shot.{Shot}
 use Rattle.alb_board.specs.Published.{IsAllowedEnd}
 use Rattle.alb_board.specs.Views.{M}

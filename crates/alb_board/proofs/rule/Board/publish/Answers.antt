@@ -1,7 +1,7 @@
 use Rattle.std.proofs.Common.{ap, ◌∙◌, refl, None, subst, sym}
 use Rattle.std.specs.Arc.{arc_value}
 use Rattle.alb_poly.specs.declared.rules.Rules.{Rules}
-use Rattle.alb_table.specs.RightFor.{rules_view, IsRightFor}
+use Rattle.alb_table.specs.RightTable.{rules_view, IsRightFor}
 use Rattle.alb_board.specs.Views.{M}
 use Rattle.alb_board.proofs.CallLemmas.{next_follows}
 use Rattle.alb_board.proofs.rule.Board.publish.Goals as goal

@@ -1,5 +1,5 @@
 use Rattle.std.proofs.lemmas.Result.{IfOk-weaker}
-use Rattle.alb_mono.specs.Mono.{tree}
+use Rattle.alb_mono.specs.Tree.{tree}
 use Rattle.alb_rows.specs.Row.{comb}
 use Rattle.alb_check.specs.Products.{vectors}
 use Rattle.alb_check.proofs.ValueLemmas.{value_of_product}

@@ -1,5 +1,5 @@
 use Rattle.std.proofs.Common.{◌≡◌, subst, sym}
-use Rattle.alb_rows.specs.Row.{Cells, AreResidues, AreSameVector, comb}
+use Rattle.alb_rows.specs.Row.{Cells, AreCellResidues, AreSameVector, comb}
 use Rattle.std.specs.Prelude.{OnOk, ◌++◌}
 use Rattle.gf_sums.specs.Sums.{scale}
 use Rattle.alb_check.specs.Products.{row_at}
@@ -8,7 +8,7 @@ use Rattle.alb_check.proofs.value.Algebra.add_product.Goals as goal
 
 pub add_scaled-requires-clause-other_in : goal.add_scaled-requires-clause-other_in
 add_scaled-requires-clause-other_in c =
-    subst (AreResidues c.args.self.now.field.now) (sym c.in-Some.ensures) (row_residues c.args.self.now.field.now c.args.self.now.products.now c.from.result c.from-2.result c.requires.products.residues)
+    subst (AreCellResidues c.args.self.now.field.now) (sym c.in-Some.ensures) (row_residues c.args.self.now.field.now c.args.self.now.products.now c.from.result c.from-2.result c.requires.products.residues)
 
 pub returns-in-Some-clause-value : goal.returns-in-Some-clause-value
 returns-in-Some-clause-value c =

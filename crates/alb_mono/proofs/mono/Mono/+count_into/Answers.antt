@@ -1,6 +1,6 @@
 use Rattle.std.proofs.Common.{◌∙◌, sym, refl, length}
 use Rattle.std.proofs.lemmas.Bool.{ltb-true}
-use Rattle.alb_mono.specs.Mono.{tree}
+use Rattle.alb_mono.specs.Tree.{tree}
 use Rattle.alb_mono.proofs.Leaves.{plus-leaf, plus-node}
 use Rattle.alb_mono.proofs.mono.Mono.+count_into.Goals as goal
 

@@ -1,5 +1,5 @@
 use Rattle.std.proofs.Common.{◌∙◌, sym}
-use Rattle.alb_mono.specs.Mono.{tree}
+use Rattle.alb_mono.specs.Tree.{tree}
 use Rattle.alb_mono.proofs.Order.{types-by_degree}
 use Rattle.alb_mono.proofs.Leaves.{length-type_of}
 use Rattle.alb_mono.proofs.mono.Mono.cmp_their_types.Goals as goal

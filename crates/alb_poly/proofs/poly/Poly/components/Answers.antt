@@ -1,6 +1,5 @@
 use Rattle.std.proofs.Common.{◌≡◌, ◌∙◌, ◌-◌, ◌++◌, [], ◌∷◌, true, All, sym, ap, arith, subst}
-use Rattle.alb_mono.specs.Mono.{tree}
-use Rattle.alb_mono.specs.Tree.{are_below, type_of}
+use Rattle.alb_mono.specs.Tree.{tree, are_below, type_of}
 use Rattle.alb_mono.proofs.Leaves.{length-type_of}
 use Rattle.alb_poly.specs.Poly.{IsDescending}
 use Rattle.alb_poly.specs.Terms.{terms}

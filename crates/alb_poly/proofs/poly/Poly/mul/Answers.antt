@@ -1,6 +1,5 @@
 use Rattle.std.proofs.Common.{◌≡◌, ◌∙◌, sym, ap, subst}
-use Rattle.alb_poly.specs.Poly.{AreResidues}
-use Rattle.alb_poly.specs.Normal.{normal}
+use Rattle.alb_poly.specs.Poly.{AreResidues, normal}
 use Rattle.alb_poly.specs.Terms.{terms, products}
 use Rattle.alb_poly.proofs.Products.{products-normal, products-residues}
 use Rattle.alb_poly.proofs.poly.Poly.mul.Goals as goal

@@ -1,7 +1,7 @@
 use Rattle.std.proofs.Common.{◌≡◌, sym, subst}
 use Rattle.gf_sums.specs.Sums.{reindex}
-use Rattle.alb_mono.specs.Mono.{tree}
-use Rattle.alb_poly.specs.Context.{beside}
+use Rattle.alb_mono.specs.Tree.{tree}
+use Rattle.alb_poly.specs.Consequence.{beside}
 use Rattle.alb_poly.specs.Poly.{IsDescending}
 use Rattle.alb_poly.specs.Terms.{terms}
 use Rattle.alb_poly.proofs.Falling.{descending-beside}

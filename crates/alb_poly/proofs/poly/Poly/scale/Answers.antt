@@ -1,6 +1,5 @@
 use Rattle.std.proofs.Common.{◌≡◌, ◌∙◌, sym, ap, subst, arith}
-use Rattle.alb_poly.specs.Poly.{AreResidues}
-use Rattle.alb_poly.specs.Normal.{normal}
+use Rattle.alb_poly.specs.Poly.{AreResidues, normal}
 use Rattle.alb_poly.specs.Terms.{terms, multiples}
 use Rattle.alb_poly.proofs.Products.{multiples-normal, multiples-residues}
 use Rattle.alb_poly.proofs.Falling.{Falls, falls-multiples, descending-falls, falls-sorted}

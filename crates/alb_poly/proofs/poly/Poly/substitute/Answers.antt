@@ -1,9 +1,7 @@
 use Rattle.std.proofs.Common.{◌≡◌, ◌∙◌, ◌≤◌, length, take, true, sym, ap, arith, subst}
 use Rattle.std.proofs.lemmas.List.{take_all}
-use Rattle.alb_mono.specs.Mono.{tree}
-use Rattle.alb_mono.specs.Tree.{degree, are_below}
-use Rattle.alb_poly.specs.Normal.{normal}
-use Rattle.alb_poly.specs.Poly.{AreResidues, greatest_degree}
+use Rattle.alb_mono.specs.Tree.{tree, degree, are_below}
+use Rattle.alb_poly.specs.Poly.{normal, AreResidues, greatest_degree}
 use Rattle.alb_poly.specs.Terms.{terms}
 use Rattle.alb_poly.proofs.Images.{image_terms, image_terms-normal, image_terms-residues, small_part}
 use Rattle.alb_poly.proofs.Items.{coef_at, term_at, degree_at}

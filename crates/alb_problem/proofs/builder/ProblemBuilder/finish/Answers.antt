@@ -1,7 +1,7 @@
 use Rattle.std.proofs.Common.{◌≤◌, length, map, sum, arith}
 use Rattle.std.proofs.lemmas.List.{length-map}
 use Rattle.gf_field.proofs.Table.{IsPrime-from_table}
-use Rattle.alb_poly.specs.Rules.{form}
+use Rattle.alb_poly.specs.Consequence.{form}
 use Rattle.alb_problem.proofs.GeneratorLemmas.{length-counts}
 use Rattle.alb_problem.proofs.BuilderLemmas.{kept-identities, forms-linearized, homogeneous-kept, same-linearizations}
 use Rattle.alb_problem.specs.Builder.{with_degrees}

@@ -1,7 +1,7 @@
 use Rattle.std.proofs.Common.{◌≡◌, ◌∙◌, ◌≤◌, sym, subst, ap, length, arith, List, ℕ, reverse}
 use Rattle.gf_sums.specs.Sums.{total}
-use Rattle.alb_mono.specs.Types.{splits}
-use Rattle.alb_table.specs.Entry.{products, products_of}
+use Rattle.alb_mono.specs.Tree.{splits}
+use Rattle.alb_table.specs.Table.{products, products_of}
 use Rattle.alb_subst.specs.Columns.{IsDistinct}
 use Rattle.alb_subst.specs.Products.{split_size}
 use Rattle.alb_subst.proofs.ProductLemmas.{sizes-fit, length-products_of, distinct-reverse, distinct-products}

@@ -1,6 +1,6 @@
 use Rattle.std.proofs.Common.{rules, ◌≡◌, ◌+◌, ◌%◌}
 use Rattle.std.specs.Prelude.{Some, None, position, slice_index}
-use Rattle.alb_table.specs.Grid.{same_pair}
+use Rattle.alb_table.specs.Table.{same_pair}
 use Rattle.alb_subst.specs.Columns.{IsDistinct}
 use Rattle.alb_subst.proofs.SumLemmas.{adds_left_out, adds_at}
 use Rattle.alb_subst.proofs.sums.Space.add_pair.Goals as goal

@@ -1,10 +1,8 @@
 use Rattle.std.proofs.Common.{rules, ◌≡◌, ◌∙◌, ◌<◌, sym, ap, arith}
 use Rattle.std.proofs.lemmas.Result.{IfOk-weaker}
-use Rattle.alb_mono.specs.Mono.{tree}
-use Rattle.alb_mono.specs.Tree.{node}
+use Rattle.alb_mono.specs.Tree.{tree, node}
 use Rattle.alb_table.specs.declared.part.Elem.TheVariants.{Gen, Prod}
-use Rattle.alb_table.specs.PartView.{mono_at}
-use Rattle.alb_table.specs.Table.{FactorsBelow}
+use Rattle.alb_table.specs.Table.{mono_at, FactorsBelow}
 use Rattle.alb_table.proofs.MonoLemmas.{mono_step}
 use Rattle.alb_table.proofs.tables.Tables.+basis_mono.Goals as goal
 

@@ -3,8 +3,8 @@ use Rattle.std.proofs.lemmas.List.{get_or_default}
 use Rattle.std.proofs.lemmas.Bool.{ltb-true}
 use Rattle.alb_mono.proofs.ListingLemmas.{each-at}
 use Rattle.alb_rows.specs.Row.{Cells, comb}
-use Rattle.alb_table.specs.PartView.{elems}
-use Rattle.alb_table.specs.Value.{IsVector}
+use Rattle.alb_table.specs.Table.{elems}
+use Rattle.alb_table.specs.Value.{IsBasisRow}
 use Rattle.alb_table.proofs.ValueLemmas.{product_value, same_lists}
 use Rattle.alb_table.proofs.tables.Tables.+factor.Goals as goal
 
@@ -17,8 +17,8 @@ returns-in-Gen-clause-value t c =
 pub returns-in-Gen-clause-row : goal.returns-in-Gen-clause-row
 returns-in-Gen-clause-row t c =
     let l : c.in-Gen.k < length c.args.rows.now = ltb-true c.in-Gen.k (length c.args.rows.now) (rw c.in-Gen.is at c.requires.positions) in
-    subst (IsVector c.args.self.now.p (length (elems c.args.self.now.parts))) (sym c.index-rows-k.is)
-    (each-at (IsVector c.args.self.now.p (length (elems c.args.self.now.parts))) c.args.rows.now c.in-Gen.k c.index-rows-k.result c.requires.vectors l)
+    subst (IsBasisRow c.args.self.now.p (length (elems c.args.self.now.parts))) (sym c.index-rows-k.is)
+    (each-at (IsBasisRow c.args.self.now.p (length (elems c.args.self.now.parts))) c.args.rows.now c.in-Gen.k c.index-rows-k.result c.requires.vectors l)
 
 pub returns-in_ok-product-in-Prod-clause-value : goal.returns-in_ok-product-in-Prod-clause-value
 returns-in_ok-product-in-Prod-clause-value t c =

@@ -1,14 +1,13 @@
 use Rattle.std.proofs.Common.{rules, ◌≡◌, length}
 use Rattle.std.specs.Prelude.{Some, None}
-use Rattle.alb_table.specs.PartView.{elems}
-use Rattle.alb_table.specs.Entry.{entry_of}
-use Rattle.alb_table.specs.Value.{IsVector}
+use Rattle.alb_table.specs.Table.{elems, entry_of}
+use Rattle.alb_table.specs.Value.{IsBasisRow}
 use Rattle.alb_table.proofs.ValueLemmas.{add_none, add_some}
 use Rattle.alb_table.proofs.tables.Tables.add_product.Goals as goal
 
 pub add_scaled-requires-clause-other_in : goal.add_scaled-requires-clause-other_in
 add_scaled-requires-clause-other_in c =
-    let v : IsVector c.args.self.now.p (length (elems c.args.self.now.parts)) c.in-Some.e.now = search rules in
+    let v : IsBasisRow c.args.self.now.p (length (elems c.args.self.now.parts)) c.in-Some.e.now = search rules in
     rw c.field.ensures v.row.residues
 
 pub returns-in-None-clause-value : goal.returns-in-None-clause-value
@@ -24,7 +23,7 @@ returns-in_ok-add_scaled-in-Some-clause-value c =
 
 pub returns-in_ok-add_scaled-in-Some-clause-row : goal.returns-in_ok-add_scaled-in-Some-clause-row
 returns-in_ok-add_scaled-in-Some-clause-row c =
-    let v : IsVector c.args.self.now.p (length (elems c.args.self.now.parts)) c.in-Some.e.now = search rules in
+    let v : IsBasisRow c.args.self.now.p (length (elems c.args.self.now.parts)) c.in-Some.e.now = search rules in
     let e = c.in_ok-add_scaled-in-Some.ensures in
     record {
       row = record { row = e.row; residues = rw c.field.ensures at e.residues };

@@ -1,7 +1,6 @@
 use Rattle.std.proofs.Common.{◌≡◌, ◌∙◌, ap, get_or, subst, List}
 use Rattle.alb_table.specs.declared.part.Elem.{Elem}
-use Rattle.alb_table.specs.PartView.{elems}
-use Rattle.alb_table.specs.Table.{Table, IsTable}
+use Rattle.alb_table.specs.Table.{elems, Table, IsTable}
 use Rattle.alb_table.proofs.GridLemmas.{get_some}
 use Rattle.alb_table.proofs.MonoLemmas.{elem_factors, elem_generator}
 use Rattle.alb_table.proofs.tables.Tables.elem.Goals as goal

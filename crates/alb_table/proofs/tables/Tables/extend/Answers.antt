@@ -1,5 +1,5 @@
 use Rattle.std.proofs.Common.{map, refl}
-use Rattle.alb_table.specs.PartView.{part_view}
+use Rattle.alb_table.specs.Table.{part_view}
 use Rattle.alb_table.specs.Views.{views}
 use Rattle.alb_table.proofs.KeptLemmas.{are_full, kept_extended}
 use Rattle.alb_table.proofs.tables.Tables.extend.Goals as goal

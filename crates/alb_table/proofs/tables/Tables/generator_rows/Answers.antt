@@ -1,7 +1,7 @@
 use Rattle.std.proofs.Common.{◌≡◌, ◌∙◌, ◌+◌, ◌≤◌, ◌++◌, ◌∷◌, [], ℕ, ap, arith, length, length-append}
 use Rattle.alb_rows.specs.Row.{comb}
-use Rattle.alb_table.specs.PartView.{elems}
-use Rattle.alb_table.specs.Value.{IsVector, generator_vector}
+use Rattle.alb_table.specs.Table.{elems}
+use Rattle.alb_table.specs.Value.{IsBasisRow, generator_vector}
 use Rattle.alb_table.proofs.GeneratorLemmas.{above_one, gens_within, rows_more, rows_all, rows_each}
 use Rattle.alb_table.proofs.tables.Tables.generator_rows.Goals as goal
 
@@ -15,10 +15,10 @@ loop-k-preserved c =
     let l : length c.push.new.self.items ≡ length c.loop-k.rows.items + 1 = ap length i ∙ length-append c.loop-k.rows.items (c.in_ok-generator_row.field-0 ∷ []) in
     let e : length c.loop-k.rows.items ≡ c.loop-k.k = c.loop-k.invariant.0 in
     let v : comb c.in_ok-generator_row.field-0 ≡ generator_vector (length c.args.self.now.target) c.loop-k.k = c.in_ok-generator_row.ensures.value ∙ ap (λ m. generator_vector m c.loop-k.k) g in
-    let r : IsVector c.args.self.now.p (length (elems c.args.self.now.parts)) c.in_ok-generator_row.field-0 =
+    let r : IsBasisRow c.args.self.now.p (length (elems c.args.self.now.parts)) c.in_ok-generator_row.field-0 =
     c.in_ok-generator_row.ensures.row c.args.self.now.p (length (elems c.args.self.now.parts)) (above_one c.args.self.now t) (omega arith) in (
       omega arith,
-      rows_each (IsVector c.args.self.now.p (length (elems c.args.self.now.parts))) c.loop-k.rows.items c.push.new.self.items c.in_ok-generator_row.field-0 c.loop-k.invariant.1 r i,
+      rows_each (IsBasisRow c.args.self.now.p (length (elems c.args.self.now.parts))) c.loop-k.rows.items c.push.new.self.items c.in_ok-generator_row.field-0 c.loop-k.invariant.1 r i,
       rows_more (length c.args.self.now.target) c.loop-k.rows.items c.push.new.self.items c.in_ok-generator_row.field-0 c.loop-k.k e c.loop-k.invariant.2 v i,
     )
 

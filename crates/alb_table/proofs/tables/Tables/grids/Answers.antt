@@ -1,8 +1,7 @@
 use Rattle.std.proofs.Common.{◌≡◌, ◌∙◌, ◌<◌, sym, ap, subst, length, arith}
 use Rattle.std.specs.List.{flat_map}
 use Rattle.alb_table.specs.Grid.{cells_of, ArePairsBelow}
-use Rattle.alb_table.specs.PartView.{elems, part_at}
-use Rattle.alb_table.specs.Entry.{products}
+use Rattle.alb_table.specs.Table.{elems, part_at, products}
 use Rattle.alb_table.specs.Views.{views}
 use Rattle.alb_table.proofs.PartLemmas.{cells_at, length-views}
 use Rattle.alb_table.proofs.MonoLemmas.{products_below}

@@ -1,6 +1,6 @@
 use Rattle.std.proofs.Common.{rules, ◌≡◌, ◌∙◌, sym, ap, ◌<◌, length, map, arith}
 use Rattle.std.specs.Prelude.{Some, None}
-use Rattle.alb_table.specs.PartView.{origin_view, origins_at}
+use Rattle.alb_table.specs.Table.{origin_view, origins_at}
 use Rattle.alb_table.specs.Views.{views, part_number}
 use Rattle.alb_table.proofs.PartLemmas.{stored_part, part_none}
 use Rattle.alb_table.proofs.TableLemmas.{parts_long, types_ascend}

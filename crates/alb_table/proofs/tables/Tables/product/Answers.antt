@@ -2,10 +2,8 @@ use Rattle.std.proofs.Common.{rules, ◌≡◌, ◌∙◌, sym, ap, ◌<◌, len
 use Rattle.std.specs.Prelude.{Some, None, IfSome, IfNone, Option}
 use Rattle.std.specs.List.{flat_map}
 use Rattle.alb_rows.specs.Row.{Cells}
-use Rattle.alb_table.specs.Grid.{find_entry, cells_of}
-use Rattle.alb_table.specs.PartView.{entries_at}
-use Rattle.alb_table.specs.Entry.{entry_of, products}
-use Rattle.alb_table.specs.Table.{Table, IsTable}
+use Rattle.alb_table.specs.Grid.{cells_of}
+use Rattle.alb_table.specs.Table.{find_entry, entries_at, entry_of, products, Table, IsTable}
 use Rattle.alb_table.specs.Views.{views, part_number}
 use Rattle.alb_table.proofs.PartLemmas.{plus_small, stored_part, part_none, Found, entry_found}
 use Rattle.alb_table.proofs.GridLemmas.{find_empty}

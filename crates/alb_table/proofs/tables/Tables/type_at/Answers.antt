@@ -1,6 +1,5 @@
 use Rattle.std.proofs.Common.{rules, ◌≡◌, ◌∙◌, sym, ap, subst, ◌≤◌, arith, ◌<◌, ℕ, List, length, All}
-use Rattle.alb_table.specs.PartView.{elems, type_at}
-use Rattle.alb_table.specs.Table.{IsTable}
+use Rattle.alb_table.specs.Table.{elems, type_at, IsTable}
 use Rattle.alb_table.specs.Views.{view_of, views}
 use Rattle.alb_table.proofs.PartLemmas.{element_part, length-numbers}
 use Rattle.alb_table.proofs.TableLemmas.{type_small}

@@ -4,7 +4,7 @@ use Rattle.alb_poly.specs.Poly.{Poly, AreResidues}
 use Rattle.alb_poly.specs.Terms.{terms}
 use Rattle.alb_poly.proofs.Items.{coef_at}
 use Rattle.alb_rows.specs.Row.{comb, AreSameVector}
-use Rattle.alb_table.specs.PartView.{elems}
+use Rattle.alb_table.specs.Table.{elems}
 use Rattle.alb_table.specs.Value.{table_value}
 use Rattle.alb_table.proofs.ValueLemmas.{value_more, none_vector, same_lists, zero_exactly}
 use Rattle.alb_table.proofs.tables.Tables.value.Goals as goal

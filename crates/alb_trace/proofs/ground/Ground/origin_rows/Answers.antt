@@ -1,9 +1,9 @@
 use Rattle.std.proofs.Common.{◌≡◌, ◌∙◌, ℕ, List, length, sym, ap, subst, arith}
 use Rattle.alb_rows.specs.Row.{IsRowOver, ColumnsBelow}
-use Rattle.alb_block.specs.Asked.{setting}
-use Rattle.alb_table.specs.PartView.{origins_at}
+use Rattle.alb_block.specs.Asked.{block_setting}
+use Rattle.alb_table.specs.Table.{origins_at}
 use Rattle.alb_subst.specs.Sums.{HasEntries, instance_row}
-use Rattle.alb_poly.specs.Rules.{form}
+use Rattle.alb_poly.specs.Consequence.{form}
 use Rattle.alb_trace.specs.Origins.{HasOffered}
 use Rattle.alb_trace.proofs.OfferedLemmas.{offered-none, offered-more, new_number}
 use Rattle.alb_trace.proofs.OriginLemmas.{few-origins, count, identity-below, args-below, linearized, args-long, row-is}
@@ -12,7 +12,7 @@ use Rattle.alb_trace.proofs.ground.Ground.origin_rows.Goals as goal
 pub loop-k-init : goal.loop-k-init
 loop-k-init c =
     let e = c.new-echelon.ensures in
-    offered-none (setting c.args.self.now.rules.now c.args.self.now.tables.now c.args.t.now) c.new-echelon.result (origins_at c.args.self.now.tables.now.parts c.args.t.now)
+    offered-none (block_setting c.args.self.now.rules.now c.args.self.now.tables.now c.args.t.now) c.new-echelon.result (origins_at c.args.self.now.tables.now.parts c.args.t.now)
     (ap (λ r. r.p) e ∙ c.field.ensures) (ap (λ r. r.columns) e ∙ c.len.ensures.value ∙ ap length c.requires.columns_are) (ap (λ r. r.keeps_recipes) e) (ap (λ r. r.rows) e) (ap (λ r. r.offers) e)
 
 pub index-f-requires : goal.index-f-requires
@@ -53,11 +53,11 @@ loop-k-preserved c =
     let row = row-is c.args.self.now.rules.now c.args.self.now.tables.now c.requires.ground.right c.args.t.now c.requires.product c.origins-origins.result.now c.origins-origins.ensures
     c.loop-k.k c.index-origins-k.result c.loop-k-test.true c.index-origins-k.is c.index-f.result.now c.index-f.ensures
     c.args.columns.now c.in_ok-row.row c.requires.columns_are entries c.in_ok-row.ensures.columns in
-    offered-more (setting c.args.self.now.rules.now c.args.self.now.tables.now c.args.t.now) c.loop-k.echelon c.in_ok-next.next (origins_at c.args.self.now.tables.now.parts c.args.t.now) c.loop-k.k
+    offered-more (block_setting c.args.self.now.rules.now c.args.self.now.tables.now c.args.t.now) c.loop-k.echelon c.in_ok-next.next (origins_at c.args.self.now.tables.now.parts c.args.t.now) c.loop-k.k
     c.in_ok-row.row c.loop-k.invariant row c.in_ok-next.ensures.span c.in_ok-next.ensures.offers c.in_ok-next.ensures.same
 
 pub returns : goal.returns
 returns c =
     let n = count c.args.self.now.rules.now c.args.self.now.tables.now c.requires.ground.right c.args.t.now c.requires.product c.origins-origins.result.now c.origins-origins.ensures in
     let e : c.loop-k.k ≡ length (origins_at c.args.self.now.tables.now.parts c.args.t.now) = omega arith in
-    subst (λ (k : ℕ). HasOffered (setting c.args.self.now.rules.now c.args.self.now.tables.now c.args.t.now) c.loop-k.echelon (origins_at c.args.self.now.tables.now.parts c.args.t.now) k) e c.loop-k.invariant
+    subst (λ (k : ℕ). HasOffered (block_setting c.args.self.now.rules.now c.args.self.now.tables.now c.args.t.now) c.loop-k.echelon (origins_at c.args.self.now.tables.now.parts c.args.t.now) k) e c.loop-k.invariant

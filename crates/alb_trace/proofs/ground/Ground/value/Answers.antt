@@ -1,11 +1,10 @@
 use Rattle.std.proofs.Common.{◌∷◌, [], length, sym, ap, ◌∙◌, subst, arith, ◌≤◌}
 use Rattle.std.specs.Prelude.{IsTrue}
 use Rattle.alb_trace.proofs.ResultLemmas.{IfOk-both}
-use Rattle.alb_mono.specs.Mono.{tree}
-use Rattle.alb_mono.specs.Tree.{are_below}
+use Rattle.alb_mono.specs.Tree.{tree, are_below}
 use Rattle.alb_rows.specs.Row.{comb, AreSameVector}
 use Rattle.alb_deriv.proofs.LineLemmas.{below-more}
-use Rattle.alb_table.specs.RightFor.{rules_view}
+use Rattle.alb_table.specs.RightTable.{rules_view}
 use Rattle.alb_table.specs.Value.{table_value}
 use Rattle.alb_table.proofs.RightForLemmas.{right-counts}
 use Rattle.alb_trace.proofs.ValueRows.{value-row}

@@ -1,9 +1,9 @@
 use Rattle.std.proofs.Common.{◌≡◌, ℕ, sym, subst, ◌∙◌, false, true, rules}
 use Rattle.gf_sums.specs.Sums.{Comb}
-use Rattle.alb_poly.specs.Rules.{forms}
+use Rattle.alb_poly.specs.Consequence.{forms}
 use Rattle.alb_rows.specs.Span.{IsPivot}
 use Rattle.alb_reduce.specs.Reduction.{kept}
-use Rattle.alb_table.specs.RightFor.{rules_view}
+use Rattle.alb_table.specs.RightTable.{rules_view}
 use Rattle.alb_trace.specs.Recipes.{IsRecipeFor}
 use Rattle.alb_trace.proofs.RecipeLemmas.{column-found, recipe-none, recipe-some}
 use Rattle.alb_trace.proofs.origins.OriginBlock.recipe.Goals as goal

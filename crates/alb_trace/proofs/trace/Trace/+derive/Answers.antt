@@ -2,25 +2,23 @@ use Rattle.std.proofs.Common.{rules, ◌≡◌, ℕ, ◌+◌, ◌-◌, ◌*◌, 
 use Rattle.std.specs.Prelude.{All}
 use Rattle.std.proofs.lemmas.List.{take_all, length-map}
 use Rattle.alb_poly.proofs.Multilinear.{all_from_each}
-use Rattle.alb_poly.specs.Normal.{normal}
+use Rattle.alb_poly.specs.Poly.{normal}
 use Rattle.alb_deriv.specs.Derivation.{Line}
 use Rattle.gf_field.specs.Modular.{IsSameMod}
 use Rattle.gf_field.proofs.Mod.{same, of_mod, ◌⊙◌}
 use Rattle.gf_sums.specs.Sums.{scale, reindex}
 use Rattle.gf_sums.proofs.Alike.{joined, turned}
-use Rattle.alb_mono.specs.Mono.{tree}
-use Rattle.alb_mono.specs.Tree.{Tree, leaf, node, degree}
+use Rattle.alb_mono.specs.Tree.{tree, Tree, leaf, node, degree}
 use Rattle.alb_mono.specs.declared.side.Side.TheVariants.{Right}
-use Rattle.alb_poly.specs.Context.{beside}
-use Rattle.alb_poly.specs.Rules.{forms}
+use Rattle.alb_poly.specs.Consequence.{beside, forms}
 use Rattle.alb_poly.specs.Terms.{term, terms}
 use Rattle.alb_poly.proofs.Consequence.{alike_poly}
 use Rattle.alb_rows.specs.Row.{Cells, comb}
 use Rattle.alb_deriv.proofs.Appended.{sum-none}
 use Rattle.alb_table.specs.Block.{spread}
-use Rattle.alb_table.specs.PartView.{type_at, origins_at}
-use Rattle.alb_table.specs.Right.{IsOfType, IsWithin}
-use Rattle.alb_table.specs.RightFor.{rules_view}
+use Rattle.alb_table.specs.Table.{type_at, origins_at}
+use Rattle.alb_table.specs.Right.{IsOfType, IsWithinDegree}
+use Rattle.alb_table.specs.RightTable.{rules_view}
 use Rattle.alb_table.proofs.GeneratorLemmas.{above_one}
 use Rattle.alb_table.proofs.PartLemmas.{sum-plus}
 use Rattle.alb_table.proofs.Right.{of_type-degree, of_type-within}
@@ -29,7 +27,7 @@ use Rattle.alb_table.proofs.Within.{degree-positive}
 use Rattle.alb_trace.specs.Adds.{item_of, IsLonger}
 use Rattle.alb_trace.specs.Given.{IsProductType, IsValueRow}
 use Rattle.alb_trace.specs.Origins.{product_type, origin_row, origin_instance}
-use Rattle.alb_trace.specs.Trace.{lines_of, product_less, mono_less, image_less, entries_less, Derives, Pushes}
+use Rattle.alb_trace.specs.Trace.{lines_of, product_less, mono_less, image_less, entries_less, Derives, PushesItems}
 use Rattle.alb_trace.specs.declared.trace.Citation.TheVariants as citations
 use Rattle.alb_trace.proofs.Adds.{longer-sum}
 use Rattle.alb_trace.proofs.FactorLemmas.{within-left, within-right, right-fits}
@@ -57,14 +55,14 @@ monomial_line-add_factor_differences-requires t c =
     let a = c.in-Prod.is in let b = c.deref.ensures in let d = c.deref-in-Prod.ensures in
     let e : tree c.args.m.now ≡ node (tree c.deref.result.now) (tree c.deref-in-Prod.result.now) = search rules in
     let n : degree (tree c.args.m.now) ≡ degree (tree c.deref.result.now) + degree (tree c.deref-in-Prod.result.now) = ap degree e in
-    (search rules, (c.requires.ground, (c.requires.trace, (above_one c.args.ground.now.tables.now c.requires.ground.right.table, subst (IsWithin c.args.ground.now.tables.now.target c.args.ground.now.tables.now.degree) e c.requires.within))))
+    (search rules, (c.requires.ground, (c.requires.trace, (above_one c.args.ground.now.tables.now c.requires.ground.right.table, subst (IsWithinDegree c.args.ground.now.tables.now.target c.args.ground.now.tables.now.degree) e c.requires.within))))
 
 pub monomial_line-add_part_products-requires : goal.monomial_line-add_part_products-requires
 monomial_line-add_part_products-requires t c =
     let a = c.in-Prod.is in let b = c.deref-in-Prod-2.ensures in let d = c.deref-in-Prod-3.ensures in
     let e : tree c.args.m.now ≡ node (tree c.deref-in-Prod-2.result.now) (tree c.deref-in-Prod-3.result.now) = search rules in
     let n : degree (tree c.args.m.now) ≡ degree (tree c.deref-in-Prod-2.result.now) + degree (tree c.deref-in-Prod-3.result.now) = ap degree e in
-    (search rules, (c.requires.ground, (c.in_ok-add_factor_differences-in-Prod.ensures.trace, subst (IsWithin c.args.ground.now.tables.now.target c.args.ground.now.tables.now.degree) e c.requires.within)))
+    (search rules, (c.requires.ground, (c.in_ok-add_factor_differences-in-Prod.ensures.trace, subst (IsWithinDegree c.args.ground.now.tables.now.target c.args.ground.now.tables.now.degree) e c.requires.within)))
 
 pub monomial_line-returns-in_ok-note_monomial-in-Prod : goal.monomial_line-returns-in_ok-note_monomial-in-Prod
 monomial_line-returns-in_ok-note_monomial-in-Prod t c =
@@ -74,9 +72,9 @@ monomial_line-returns-in_ok-note_monomial-in-Prod t c =
     let before : List (ℕ × ℕ) = c.new-sum.result.items.items in
     let after : List (ℕ × ℕ) = c.add_part_products.new.sum.items.items in
     let f = mono_less c.args.ground.now.tables.now (tree c.args.m.now) in
-    let p1 = subst (λ (m : Tree). Pushes (forms c.args.ground.now.rules.now) c.args.ground.now.tables.now c.args.self.now c.add_factor_differences.new.self before c.add_factor_differences.new.sum.items.items (scale 1 (image_less c.args.ground.now.tables.now m))) (sym e1) c.in_ok-add_factor_differences-in-Prod.ensures in
-    let p2 = subst (λ (m : Tree). Pushes (forms c.args.ground.now.rules.now) c.args.ground.now.tables.now c.add_factor_differences.new.self c.add_part_products.new.self c.add_factor_differences.new.sum.items.items after (entries_less c.args.ground.now.tables.now m)) (sym e2) c.in_ok-add_part_products-in-Prod.ensures in
-    let p : Pushes (forms c.args.ground.now.rules.now) c.args.ground.now.tables.now c.args.self.now c.add_part_products.new.self before after f = pushes-alike (forms c.args.ground.now.rules.now) c.args.ground.now.tables.now (mono-alike (rules_view c.args.ground.now.rules.now) c.args.ground.now.tables.now c.requires.ground.right (tree c.args.m.now)) (pushes-then (forms c.args.ground.now.rules.now) c.args.ground.now.tables.now p1 p2) in
+    let p1 = subst (λ (m : Tree). PushesItems (forms c.args.ground.now.rules.now) c.args.ground.now.tables.now c.args.self.now c.add_factor_differences.new.self before c.add_factor_differences.new.sum.items.items (scale 1 (image_less c.args.ground.now.tables.now m))) (sym e1) c.in_ok-add_factor_differences-in-Prod.ensures in
+    let p2 = subst (λ (m : Tree). PushesItems (forms c.args.ground.now.rules.now) c.args.ground.now.tables.now c.add_factor_differences.new.self c.add_part_products.new.self c.add_factor_differences.new.sum.items.items after (entries_less c.args.ground.now.tables.now m)) (sym e2) c.in_ok-add_part_products-in-Prod.ensures in
+    let p : PushesItems (forms c.args.ground.now.rules.now) c.args.ground.now.tables.now c.args.self.now c.add_part_products.new.self before after f = pushes-alike (forms c.args.ground.now.rules.now) c.args.ground.now.tables.now (mono-alike (rules_view c.args.ground.now.rules.now) c.args.ground.now.tables.now c.requires.ground.right (tree c.args.m.now)) (pushes-then (forms c.args.ground.now.rules.now) c.args.ground.now.tables.now p1 p2) in
     let d = c.in_ok-cited-in-Prod.ensures.derives (forms c.args.ground.now.rules.now) c.args.ground.now.tables.now f p.trace
     (pushes-residues (forms c.args.ground.now.rules.now) c.args.ground.now.tables.now c.args.self.now c.add_part_products.new.self before after f c.new-sum.ensures p)
     (pushes-sum (forms c.args.ground.now.rules.now) c.args.ground.now.tables.now c.args.self.now c.add_part_products.new.self before after f c.new-sum.ensures p) in
@@ -114,7 +112,7 @@ add_factor_differences-returns t c =
     let s = longer-sum c.args.ground.now.tables.now.p (forms c.args.ground.now.rules.now) d2.adds.longer (item_of c.in_ok-left.left) d1.adds.sum in
     let d3 = c.in_ok-product.ensures.derives (forms c.args.ground.now.rules.now) c.args.ground.now.tables.now (mono_less c.args.ground.now.tables.now l) d2.trace s (within-right (rules_view c.args.ground.now.rules.now) c.args.ground.now.tables.now c.requires.ground.right l r c.requires.within).below (right-fits (rules_view c.args.ground.now.rules.now) c.args.ground.now.tables.now c.requires.ground.right l r c.requires.within) in
     let u = longer-sum c.args.ground.now.tables.now.p (forms c.args.ground.now.rules.now) d3.adds.longer (item_of c.in_ok-right.right) d2.adds.sum in
-    let item = subst (λ (xs : List (ℕ × ℕ)). Pushes (forms c.args.ground.now.rules.now) c.args.ground.now.tables.now c.monomial_line-2.new.self c.times_line.new.self c.args.sum.now.items.items xs (scale c.args.c (reindex (beside (Right, r)) (mono_less c.args.ground.now.tables.now l)))) (sym c.in_ok-add.ensures)
+    let item = subst (λ (xs : List (ℕ × ℕ)). PushesItems (forms c.args.ground.now.rules.now) c.args.ground.now.tables.now c.monomial_line-2.new.self c.times_line.new.self c.args.sum.now.items.items xs (scale c.args.c (reindex (beside (Right, r)) (mono_less c.args.ground.now.tables.now l)))) (sym c.in_ok-add.ensures)
     (pushes-item (forms c.args.ground.now.rules.now) c.args.ground.now.tables.now c.monomial_line-2.new.self c.times_line.new.self c.args.sum.now.items.items c.in_ok-product.product c.args.c (reindex (beside (Right, r)) (mono_less c.args.ground.now.tables.now l)) c.requires.residue d3) in
     OnOk-weaker c.add_right_difference.result _ _ (λ z. pushes-alike (forms c.args.ground.now.rules.now) c.args.ground.now.tables.now (image-pushes (rules_view c.args.ground.now.rules.now) c.args.ground.now.tables.now c.requires.ground.right c.args.c l r)
     (pushes-after (forms c.args.ground.now.rules.now) c.args.ground.now.tables.now c.args.self.now c.monomial_line.new.self c.add_right_difference.new.self c.args.sum.now.items.items c.add_right_difference.new.sum.items.items _ d1.adds.longer
@@ -201,7 +199,7 @@ add_products_of_part-loop-cell-preserved t c =
     let small : c.mul.result < c.args.ground.now.tables.now.p = subst (λ (p : ℕ). c.mul.result < p) c.field-field.ensures c.mul.ensures.residue in
     let m : IsSameMod c.args.ground.now.tables.now.p c.mul.result (c.args.part.1 * cell.1) = same e ⊙ of_mod (c.args.part.1 * cell.1) in
     let f = product_less c.args.ground.now.tables.now (c.args.part.0, cell.0) in
-    let i = subst (λ (xs : List (ℕ × ℕ)). Pushes (forms c.args.ground.now.rules.now) c.args.ground.now.tables.now c.loop-cell.self c.product_line.new.self c.loop-cell.sum.items.items xs (scale c.mul.result f)) (sym {A = List (ℕ × ℕ)} c.in_ok-add.ensures)
+    let i = subst (λ (xs : List (ℕ × ℕ)). PushesItems (forms c.args.ground.now.rules.now) c.args.ground.now.tables.now c.loop-cell.self c.product_line.new.self c.loop-cell.sum.items.items xs (scale c.mul.result f)) (sym {A = List (ℕ × ℕ)} c.in_ok-add.ensures)
     (pushes-item (forms c.args.ground.now.rules.now) c.args.ground.now.tables.now c.loop-cell.self c.product_line.new.self c.loop-cell.sum.items.items c.in_ok-cited.cited c.mul.result f small c.in_ok-cited.ensures) in
     pushes-next (forms c.args.ground.now.rules.now) c.args.ground.now.tables.now c.args.self.now c.loop-cell.self c.product_line.new.self c.args.sum.now.items.items c.loop-cell.sum.items.items c.add.new.self.items.items c.args.part.1 c.mul.result
     (λ d. product_less c.args.ground.now.tables.now (c.args.part.0, d)) c.args.right.now c.loop-cell.cell-index (0, 0) c.loop-cell-test.true m c.loop-cell.invariant i
@@ -247,8 +245,8 @@ pub add_recipe-returns : goal.add_recipe-returns
 add_recipe-returns t c =
     let e : c.plus-t.result ≡ product_type c.args.ground.now.tables.now (c.args.b, c.args.c) = search rules in
     let f : take c.loop-item.item-index c.args.found.now ≡ c.args.found.now = take_all c.loop-item.item-index c.args.found.now c.loop-item-test.false in
-    let p = subst (λ (w : List ℕ). Pushes (forms c.args.ground.now.rules.now) c.args.ground.now.tables.now c.args.self.now c.loop-item.self c.args.sum.now.items.items c.loop-item.sum.items.items (spread (origin_row (forms c.args.ground.now.rules.now) c.args.ground.now.tables.now w) (take c.loop-item.item-index c.args.found.now))) e c.loop-item.invariant in
-    let q = subst (λ (xs : List (ℕ × ℕ)). Pushes (forms c.args.ground.now.rules.now) c.args.ground.now.tables.now c.args.self.now c.loop-item.self c.args.sum.now.items.items c.loop-item.sum.items.items (spread (origin_row (forms c.args.ground.now.rules.now) c.args.ground.now.tables.now (product_type c.args.ground.now.tables.now (c.args.b, c.args.c))) xs)) f p in
+    let p = subst (λ (w : List ℕ). PushesItems (forms c.args.ground.now.rules.now) c.args.ground.now.tables.now c.args.self.now c.loop-item.self c.args.sum.now.items.items c.loop-item.sum.items.items (spread (origin_row (forms c.args.ground.now.rules.now) c.args.ground.now.tables.now w) (take c.loop-item.item-index c.args.found.now))) e c.loop-item.invariant in
+    let q = subst (λ (xs : List (ℕ × ℕ)). PushesItems (forms c.args.ground.now.rules.now) c.args.ground.now.tables.now c.args.self.now c.loop-item.self c.args.sum.now.items.items c.loop-item.sum.items.items (spread (origin_row (forms c.args.ground.now.rules.now) c.args.ground.now.tables.now (product_type c.args.ground.now.tables.now (c.args.b, c.args.c))) xs)) f p in
     pushes-alike (forms c.args.ground.now.rules.now) c.args.ground.now.tables.now (turned (alike_poly c.requires.recipe.gives)) q
 
 -- ---- add_origin_row
@@ -299,7 +297,7 @@ add_origin_row-returns t c =
     let l : length (terms c.terms-term-items.result.now) ≤ c.loop-term.term-index = omega (arith, length-map c.terms-term-items.result.now term, c.loop-term-test.false) in
     let e : take c.loop-term.term-index (terms c.terms-term-items.result.now) ≡ normal c.args.ground.now.tables.now.p (origin_instance (forms c.args.ground.now.rules.now) c.args.ground.now.tables.now w c.args.k) =
     take_all c.loop-term.term-index (terms c.terms-term-items.result.now) l ∙ c.terms-term-items.ensures.value ∙ c.in_ok-value.ensures.value in
-    let p = subst (λ (f : List (ℕ × Tree)). Pushes (forms c.args.ground.now.rules.now) c.args.ground.now.tables.now c.add_origin_instance.new.self c.loop-term.self c.add_origin_instance.new.sum.items.items c.loop-term.sum.items.items (scale (c.args.ground.now.tables.now.p - 1) (scale c.args.c (spread (image_less c.args.ground.now.tables.now) f)))) e c.loop-term.invariant in
+    let p = subst (λ (f : List (ℕ × Tree)). PushesItems (forms c.args.ground.now.rules.now) c.args.ground.now.tables.now c.add_origin_instance.new.self c.loop-term.self c.add_origin_instance.new.sum.items.items c.loop-term.sum.items.items (scale (c.args.ground.now.tables.now.p - 1) (scale c.args.c (spread (image_less c.args.ground.now.tables.now) f)))) e c.loop-term.invariant in
     pushes-alike (forms c.args.ground.now.rules.now) c.args.ground.now.tables.now (origin-pushed (rules_view c.args.ground.now.rules.now) c.args.ground.now.tables.now c.requires.ground.right w c.requires.product c.args.k c.requires.kept c.args.c) (pushes-then (forms c.args.ground.now.rules.now) c.args.ground.now.tables.now c.in_ok-value.ensures.pushes p)
 
 -- ---- subtract_factor_differences
@@ -312,5 +310,5 @@ subtract_factor_differences-returns t c =
     let z : IsSameMod c.args.ground.now.tables.now.p (c.neg-y.result + c.mul.result) 0 = subst (λ (p : ℕ). IsSameMod p (c.neg-y.result + c.mul.result) 0) c.field-field.ensures c.neg-y.ensures.value in
     let y = negative-is c.args.ground.now.tables.now.p c.args.c c.args.term.now.coef c.neg-y.result c.mul.result (pos (rules_view c.args.ground.now.rules.now) c.args.ground.now.tables.now c.requires.ground.right) z m in
     OnOk-weaker c.add_factor_differences.result _ _ (λ p. pushes-alike (forms c.args.ground.now.rules.now) c.args.ground.now.tables.now (scales-three c.neg-y.result (c.args.ground.now.tables.now.p - 1) c.args.c c.args.term.now.coef (image_less c.args.ground.now.tables.now (tree c.args.term.now.mono)) y)
-    (subst (λ (x : Tree). Pushes (forms c.args.ground.now.rules.now) c.args.ground.now.tables.now c.args.self.now c.add_factor_differences.new.self c.args.sum.now.items.items c.add_factor_differences.new.sum.items.items (scale c.neg-y.result (image_less c.args.ground.now.tables.now x))) (sym e) p))
+    (subst (λ (x : Tree). PushesItems (forms c.args.ground.now.rules.now) c.args.ground.now.tables.now c.args.self.now c.add_factor_differences.new.self c.args.sum.now.items.items c.add_factor_differences.new.sum.items.items (scale c.neg-y.result (image_less c.args.ground.now.tables.now x))) (sym e) p))
     c.add_factor_differences.ensures

@@ -1,14 +1,13 @@
 use Rattle.std.proofs.Common.{◌+◌, ◌-◌, ◌*◌, sum, take}
 use Rattle.gf_sums.specs.Sums.{scale}
-use Rattle.alb_mono.specs.Mono.{tree}
-use Rattle.alb_mono.specs.Tree.{degree}
-use Rattle.alb_poly.specs.Rules.{forms}
+use Rattle.alb_mono.specs.Tree.{tree, degree}
+use Rattle.alb_poly.specs.Consequence.{forms}
 use Rattle.alb_poly.specs.Terms.{terms}
 use Rattle.alb_rows.specs.Row.{comb}
 use Rattle.alb_table.specs.Block.{spread}
-use Rattle.alb_table.specs.PartView.{type_at}
+use Rattle.alb_table.specs.Table.{type_at}
 use Rattle.alb_trace.specs.Origins.{origin_row}
-use Rattle.alb_trace.specs.Trace.{product_less, image_less, Pushes}
+use Rattle.alb_trace.specs.Trace.{product_less, image_less, PushesItems}
 use Rattle.alb_trace.proofs.trace.Trace.+derive.Given as goal
 
 abbrev pub decreases-monomial_line : goal.decreases-monomial_line
@@ -37,19 +36,19 @@ decreases-subtract_factor_differences l = 10 * degree (tree l.term.now.mono) + 3
 
 abbrev pub invariant-add_part_products-loop-part : goal.invariant-add_part_products-loop-part
 invariant-add_part_products-loop-part l =
-    Pushes (forms l.ground.rules.now) l.ground.tables.now l.initial.self l.self l.initial.sum.items.items l.sum.items.items
+    PushesItems (forms l.ground.rules.now) l.ground.tables.now l.initial.self l.self l.initial.sum.items.items l.sum.items.items
     (scale 1 (spread (λ b. spread (λ c. product_less l.ground.tables.now (b, c)) (comb l.parts)) (comb (take l.part-index l.part-items))))
 
 abbrev pub invariant-add_products_of_part-loop-cell : goal.invariant-add_products_of_part-loop-cell
 invariant-add_products_of_part-loop-cell l =
-    Pushes (forms l.ground.rules.now) l.ground.tables.now l.initial.self l.self l.initial.sum.items.items l.sum.items.items
+    PushesItems (forms l.ground.rules.now) l.ground.tables.now l.initial.self l.self l.initial.sum.items.items l.sum.items.items
     (scale l.part.1 (spread (λ c. product_less l.ground.tables.now (l.part.0, c)) (comb (take l.cell-index l.right))))
 
 abbrev pub invariant-add_recipe-loop-item : goal.invariant-add_recipe-loop-item
 invariant-add_recipe-loop-item l =
-    Pushes (forms l.ground.rules.now) l.ground.tables.now l.initial.self l.self l.initial.sum.items.items l.sum.items.items (spread (origin_row (forms l.ground.rules.now) l.ground.tables.now l.t) (take l.item-index l.found))
+    PushesItems (forms l.ground.rules.now) l.ground.tables.now l.initial.self l.self l.initial.sum.items.items l.sum.items.items (spread (origin_row (forms l.ground.rules.now) l.ground.tables.now l.t) (take l.item-index l.found))
 
 abbrev pub invariant-add_origin_row-loop-term : goal.invariant-add_origin_row-loop-term
 invariant-add_origin_row-loop-term l =
-    Pushes (forms l.ground.rules.now) l.ground.tables.now l.initial.self l.self l.initial.sum.items.items l.sum.items.items
+    PushesItems (forms l.ground.rules.now) l.ground.tables.now l.initial.self l.self l.initial.sum.items.items l.sum.items.items
     (scale (l.ground.tables.now.p - 1) (scale l.c (spread (image_less l.ground.tables.now) (take l.term-index (terms l.term-items)))))

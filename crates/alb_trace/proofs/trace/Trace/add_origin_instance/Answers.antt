@@ -1,19 +1,18 @@
 use Rattle.std.proofs.Common.{◌≡◌, ◌≤◌, ◌<◌, ◌∙◌, ◌+◌, ℕ, List, length, map, sym, ap, subst, arith}
 use Rattle.std.specs.Prelude.{All, IsTrue, sum_by}
-use Rattle.alb_mono.specs.Mono.{tree}
-use Rattle.alb_mono.specs.Tree.{degree, are_below}
+use Rattle.alb_mono.specs.Tree.{tree, degree, are_below}
 use Rattle.alb_mono.specs.declared.mono.Mono.{Mono}
 use Rattle.alb_linear.specs.Identity.{IsLinearized}
 use Rattle.alb_poly.specs.Instance.{instance}
-use Rattle.alb_poly.specs.Normal.{normal}
-use Rattle.alb_poly.specs.Rules.{form, forms}
-use Rattle.alb_table.specs.PartView.{mono_at}
+use Rattle.alb_poly.specs.Poly.{normal}
+use Rattle.alb_poly.specs.Consequence.{form, forms}
+use Rattle.alb_table.specs.Table.{mono_at}
 use Rattle.gf_sums.specs.Sums.{scale}
 use Rattle.alb_deriv.specs.Derivation as value
 use Rattle.alb_deriv.specs.Derivation.{Line}
 use Rattle.alb_deriv.proofs.Appended.{Appends}
 use Rattle.alb_trace.specs.Origins.{origin_instance}
-use Rattle.alb_trace.specs.Trace.{most_items, lines_of, Pushes}
+use Rattle.alb_trace.specs.Trace.{most_items, lines_of, PushesItems}
 use Rattle.alb_trace.specs.declared.trace.Citation.TheVariants as citations
 use Rattle.alb_trace.proofs.OriginLemmas.{count, identity-below, args-below, linearized, monos-known, monos-small, monos-long, degrees-small, known-26, next-instance, value-is}
 use Rattle.alb_trace.proofs.PushLemmas.{pushes-item}
@@ -55,7 +54,7 @@ returns-clause-pushes c =
     subst (λ (n : ℕ). Appends t.p most_items t.target fs (lines_of c.args.self.now) (value.Instance n (map tree c.in_ok-monos.monos.items)) (origin_instance fs t c.args.t.now c.args.k)) e x in
     let d = c.in_ok-line.ensures.derives fs t (origin_instance fs t c.args.t.now c.args.k) c.requires.trace
     (monos-known c.args.ground.now.rules.now c.args.ground.now.tables.now c.requires.ground.right c.args.t.now c.requires.product c.origins.result.now c.origins.ensures c.args.k c.index-origins-k.result here c.index-origins-k.is c.index-f.result.now c.index-f.ensures c.in_ok-monos.monos.items are, monos-small c.args.ground.now.rules.now c.args.ground.now.tables.now c.requires.ground.right c.args.t.now c.requires.product c.origins.result.now c.origins.ensures c.args.k c.index-origins-k.result here c.index-origins-k.is c.index-f.result.now c.index-f.ensures c.in_ok-monos.monos.items are) y.fine y.line in
-    subst (λ (xs : List (ℕ × ℕ)). Pushes fs t c.args.self.now c.add_line.new.self c.args.sum.now.items.items xs (scale c.args.c (origin_instance fs t c.args.t.now c.args.k))) (sym c.in_ok-add.ensures)
+    subst (λ (xs : List (ℕ × ℕ)). PushesItems fs t c.args.self.now c.add_line.new.self c.args.sum.now.items.items xs (scale c.args.c (origin_instance fs t c.args.t.now c.args.k))) (sym c.in_ok-add.ensures)
     (pushes-item fs t c.args.self.now c.add_line.new.self c.args.sum.now.items.items (citations.Line c.in_ok-line.line) c.args.c (origin_instance fs t c.args.t.now c.args.k) c.requires.residue d)
 
 pub returns-clause-value : goal.returns-clause-value

@@ -1,12 +1,11 @@
 use Rattle.std.proofs.Common.{◌<◌, ◌*◌, ◌%◌, ℕ, get_or, sym, ap, ◌∙◌, subst}
 use Rattle.gf_sums.specs.Sums.{reindex}
-use Rattle.alb_mono.specs.Mono.{tree}
+use Rattle.alb_mono.specs.Tree.{tree}
 use Rattle.alb_mono.specs.declared.side.Side.TheVariants.{Left}
-use Rattle.alb_poly.specs.Context.{beside}
-use Rattle.alb_poly.specs.Rules.{forms}
+use Rattle.alb_poly.specs.Consequence.{beside, forms}
 use Rattle.alb_rows.specs.Row.{Cells}
-use Rattle.alb_table.specs.PartView.{mono_at}
-use Rattle.alb_table.specs.RightFor.{rules_view}
+use Rattle.alb_table.specs.Table.{mono_at}
+use Rattle.alb_table.specs.RightTable.{rules_view}
 use Rattle.alb_trace.specs.Adds.{item_of}
 use Rattle.alb_trace.specs.Given.{IsValueRow}
 use Rattle.alb_trace.specs.Trace.{mono_less}

@@ -1,7 +1,7 @@
 use Rattle.gf_sums.specs.Sums.{reindex}
-use Rattle.alb_poly.specs.Context.{beside}
+use Rattle.alb_poly.specs.Consequence.{beside}
 use Rattle.std.proofs.Common.{◌≡◌, subst}
-use Rattle.alb_mono.specs.Mono.{tree}
+use Rattle.alb_mono.specs.Tree.{tree}
 use Rattle.alb_deriv.specs.Short.{IsSumOf}
 use Rattle.alb_trace.specs.Adds.{item_of}
 use Rattle.alb_trace.specs.Trace.{lines_of}
