@@ -100,7 +100,7 @@ fn write_elem<K: Sink>(
     }
 }
 
-// Writes the terms of cells, the last cell's first, behind another term.
+// Writes the terms of cells, the last cell's first, after another term.
 fn write_later_cells<K: Sink>(
     sink: &mut K,
     letters: &Letters,

@@ -24,7 +24,7 @@ slices-more [] (y ∷ ys) zs h = absurd (omega (arith, h))
 slices-more (x ∷ xs) [] zs h = absurd (omega (arith, h))
 slices-more (x ∷ xs) (y ∷ ys) zs h = ap (ordering_then (nat_cmp x y)) (slices-more xs ys zs (omega (arith, h)))
 
--- the same counts behind both types leave their order
+-- the same counts after both types leave their order
 types-more : (xs ys zs : List ℕ) → length xs ≡ length ys → cmp_types (xs ++ zs) (ys ++ zs) ≡ cmp_types xs ys
 types-more xs ys zs h =
     let s : nat_cmp (sum (xs ++ zs)) (sum (ys ++ zs)) ≡ nat_cmp (sum xs) (sum ys) =

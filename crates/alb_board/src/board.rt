@@ -70,7 +70,7 @@ impl Board {
     }
 
     /// The tables that are published, with the end that is kept. No later shot of this pass shows less, and after an end all are
-    /// the same. The tables are shared, not copied; sharing them can be refused for want of memory.
+    /// the same. The tables are shared, not copied; sharing them can be refused when out of memory.
     pub fn ask<R: Wait>(&self, rt: &R, pass: &mut Pass) -> Result<Shot, NoMemory>
         requires own { IsPassOf self.now pass.old }
         requires room { (pass_view pass.old).calls < 2 ^ 48 }

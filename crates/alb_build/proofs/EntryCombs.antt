@@ -56,7 +56,7 @@ negated-sum p numbers (c ∷ cs) (e ∷ es) i a =
     four : (x y u v : ℕ) → (x + y) + (u + v) ≡ (x + u) + (y + v)
     four x y u v = omega arith
 
--- the entries of a row, from behind
+-- the entries of a row, from the end
 entry-reverse : (xs : Cells) (i : ℕ) → entry (reverse xs) i ≡ entry xs i
 entry-reverse [] i = refl
 entry-reverse (x ∷ xs) i =

@@ -72,7 +72,7 @@ negated-rises p first free low (c ∷ cs) (e ∷ es) pos f d n l =
         let s : before free (length free - 1 - c.0) < before free (length free - 1 - x.0) = before-less free (length free - 1 - c.0) (length free - 1 - x.0) (omega arith) f.0.is_free in
         (omega arith, later ds g.1 a.1 q)
 
--- ---- the cells of a reduced row behind its pivot
+-- ---- the cells of a reduced row after its pivot
 
 pub each-indexed : (P : ℕ × ℕ → Type 0) (xs : Cells) → ((i : ℕ) → i < length xs → P (get_or xs i (0, 0))) → Each P xs
 each-indexed P [] h = tt
@@ -88,7 +88,7 @@ descend-row [] h = tt
 descend-row (x ∷ xs) h = rw (reverse-cons x xs)
     (descend-push (reverse xs) x (descend-row xs (row_tail x xs h)) (each-reverse (λ d. x.0 < d.0) xs (each_from_all (λ d. x.0 < d.0) xs (tail_later x xs h))))
 
--- the first cell stands at the pivot or behind it
+-- the first cell stands at the pivot or after it
 pub lead-first : (column : ℕ) (x : ℕ × ℕ) (xs : Cells) → IsRow (x ∷ xs) → RowLeadsWith (x ∷ xs) (column, 1) → column ≤ x.0
 lead-first column x xs h l = elim (order column x.0) [
   | inl s ↦ s
@@ -103,7 +103,7 @@ lead-first column x xs h l = elim (order column x.0) [
     order a b = grind arith
 
 module _ (r : Reduction) (free : List Bool) (are : AreFree r (length free) free) (column : ℕ) where
-  -- a cell behind the pivot is free
+  -- a cell after the pivot is free
   pub rest-free : (x : ℕ × ℕ) (xs : Cells) → IsReducedRow r.p (kept r) column (entry (x ∷ xs)) → RowLeadsWith (x ∷ xs) (column, 1) → IsRowOver r.p (x ∷ xs) →
       ColumnsBelow (length free) (x ∷ xs) → Each (IsFreeCell r.p free) xs
   rest-free x xs red lead over below = each-indexed (IsFreeCell r.p free) xs (λ i l.
@@ -142,7 +142,7 @@ module _ (r : Reduction) (free : List Bool) (are : AreFree r (length free) free)
       all-above [] = tt
       all-above (c ∷ cs) = (omega arith, all-above cs)
 
-  -- the cells behind the pivot, the last first
+  -- the cells after the pivot, the last first
   pub cells-free : (row : Cells) → IsReducedRow r.p (kept r) column (entry row) → RowLeadsWith row (column, 1) → IsRowOver r.p row → ColumnsBelow (length free) row →
       Each (IsFreeCell r.p free) (reverse (drop 1 row))
   cells-free [] red lead over below = tt

@@ -107,7 +107,7 @@ makes-room p n first blocks parts left rest b m e h =
     let z : first ≡ n + length (elems (map part_view parts)) = m.number in
     omega arith
 
--- and the number behind its part
+-- and the number after its part
 pub makes-next_room : (p n first : ℕ) (blocks : List Block) (parts : List Part) (left rest : List Block) (b : Block) (q : Part) → Makes p n blocks parts first left → left ≡ rest ++ b ∷ [] →
     n + count_columns (map block_view blocks) < 2 ^ 32 → IsPartMade first (block_view b) (part_view q) → first + length q.basis.items < 2 ^ 32
 makes-next_room p n first blocks parts left rest b q m e h k = omega (arith, makes-room p n first blocks parts left rest b m e h, part-small first (block_view b) (part_view q) k)

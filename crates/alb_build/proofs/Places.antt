@@ -80,7 +80,7 @@ part-new fs t (x ∷ ws) (b ∷ bs) (q ∷ qs) n w a m i = elim (cases_Bool (lis
         absurd (cc))
     later e (inr j) = j
 
--- behind parts of smaller degrees
+-- after parts of smaller degrees
 pub part-behind : (fs : List Form) (t : Table) (ps qs : List PartView) (w : List ℕ) (d : ℕ) → Each (λ (q : PartView). sum q.at ≤ d) ps → sum w ≡ d + 1 →
     (n : ℕ) → HasPart fs t qs (n + length (elems ps)) w → HasPart fs t (ps ++ qs) n w
 part-behind fs t [] qs w d a s n h = (let z : n + 0 ≡ n = omega arith in subst (λ x. HasPart fs t qs x w) z h)

@@ -76,7 +76,7 @@ basis-all out columns bs k l i =
     none (x ∷ xs) zero l = absurd (omega arith)
     none (x ∷ xs) (suc k) l = none xs k (omega arith)
 
--- one more cell, from behind
+-- one more cell, from the end
 pub cell-more : (p : ℕ) (numbers : List ℕ) (row out new : Cells) (k : ℕ) (c e : ℕ × ℕ) → 1 ≤ k → k < length row → c ≡ get_or row (length row - k) (0, 0) →
     new ≡ out ++ e ∷ [] → IsNegatedCell p numbers c e → AreNegated p numbers (take (k - 1) (reverse (drop 1 row))) out → AreNegated p numbers (take (k + 1 - 1) (reverse (drop 1 row))) new
 cell-more p numbers [] out new k c e a l g w n i = absurd (omega arith)

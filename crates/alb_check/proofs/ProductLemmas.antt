@@ -44,7 +44,7 @@ before_before a b c d e f h k = grind (arith, nat_tests)
 pub before_other : (a b i j : ℕ) → is_pair_before a b i j ≡ true → (a == i && b == j) ≡ false
 before_other a b i j h = grind (arith, nat_tests)
 
--- what stands behind a pair that is not before (i, j) and is another one is not (i, j)
+-- what stands after a pair that is not before (i, j) and is another one is not (i, j)
 later_other : (a b c d i j : ℕ) → is_pair_before a b c d ≡ true → is_pair_before a b i j ≡ false → (c == i && d == j) ≡ false
 later_other a b c d i j h k = grind (arith, nat_tests)
 

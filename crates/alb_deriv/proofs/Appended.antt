@@ -1,4 +1,4 @@
--- Lines put behind lines that stand.
+-- Lines put after lines that stand.
 use Rattle.std.proofs.Common.{◌≡◌, ℕ, ◌+◌, ◌-◌, ◌*◌, ◌%◌, ◌<◌, ◌≤◌, true, false, not, ◌&&◌, List, [], ◌∷◌, ◌++◌, length, sym, refl, ap, ◌∙◌, subst, arith, inl, inr, None}
 use Rattle.std.specs.Bool.{IsTrue, ◌==◌}
 use Rattle.std.specs.List.{list_any}
@@ -129,7 +129,7 @@ module _ (p : ℕ) (fs : List Form) where
 
 -- ---- one more line
 
--- the line `l` behind `ls` has no fault, and the polynomial `f`
+-- the line `l` after `ls` has no fault, and the polynomial `f`
 pub record Appends (p most : ℕ) (target : List ℕ) (fs : List Form) (ls : List Line) (l : Line) (f : Poly) : Type 0 where
   pub fine : AreFine p most target fs (ls ++ l ∷ [])
   pub line : IsLineOf p fs (ls ++ l ∷ []) (length ls + 1) f

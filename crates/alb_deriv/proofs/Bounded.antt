@@ -115,7 +115,7 @@ module _ (target : List ℕ) (fs : List Form) (multi : AreMultilinear fs) (it : 
 -- ---- lines
 
 module _ (p : ℕ) (pos : 0 < p) (target : List ℕ) (fs : List Form) where
-  -- at most n lines behind `ls`, and one of all has the polynomial `f`
+  -- at most n lines after `ls`, and one of all has the polynomial `f`
   record Reaches (ls : List Line) (n : ℕ) (f : Poly) : Type 0 where
     more : List Line
     fine : AreFine p 64 target fs (ls ++ more)
@@ -175,7 +175,7 @@ module _ (p : ℕ) (pos : 0 < p) (target : List ℕ) (fs : List Form) where
     is : IsItem fs it
     at_most : IsTrue (item_at_most target it)
 
-  -- lines behind `ls`, and multiples of lines that add up to multiples of items
+  -- lines after `ls`, and multiples of lines that add up to multiples of items
   record Gathers (ls : List Line) (cs : Comb Item) : Type 0 where
     more : List Line
     fine : AreFine p 64 target fs (ls ++ more)

@@ -12,7 +12,7 @@ use Rattle.alb_deriv.specs.Short.{AreFine, IsPlace, IsLineOf, sum_of, IsSumOf}
 use Rattle.alb_deriv.proofs.Appended.{Appends, sum_of-append, sum-append, sum-alike, sum-kept, sum-one, append-sum}
 use Rattle.alb_deriv.proofs.Limited.{HasResidues}
 
--- lines behind `ls`, not many more than the items `cs`, the last of which has the polynomial `f`
+-- lines after `ls`, not many more than the items `cs`, the last of which has the polynomial `f`
 pub record Closes (p most : ℕ) (target : List ℕ) (fs : List Form) (ls : List Line) (cs : List (ℕ × ℕ)) (f : Poly) : Type 0 where
   pub more : List Line
   pub fine : AreFine p most target fs (ls ++ more)

@@ -159,7 +159,7 @@ module _ (p : ℕ) (pos : 0 < p) (most : ℕ) (big : 2 ≤ most) (target : List 
         omega arith,
       )
 
-  -- A derivation can stand behind any lines: lines `more` behind `ls`, with a combination that has its last polynomial.
+  -- A derivation can stand after any lines: lines `more` after `ls`, with a combination that has its last polynomial.
   pub derivation-behind : (g : Poly) (olds ls : List Line) → IsDerivation p target fs g olds → Each (IsLineBelow (length target)) olds → AreFine p most target fs ls →
       (more : List Line) × AreFine p most target fs (ls ++ more) × (cs : List (ℕ × ℕ)) × IsSumOf p fs (ls ++ more) cs g × (length cs ≤ 1)
   derivation-behind g olds ls d b h =

@@ -188,7 +188,7 @@ fn add_up(
     Ok(sum)
 }
 
-/// The polynomial of a line behind lines with these polynomials, or the line's first fault.
+/// The polynomial of a line after lines with these polynomials, or the line's first fault.
 pub fn value_of(
     alloc: Global,
     rules: &Rules,

@@ -24,7 +24,7 @@ counted-map-at v f k xs i x h e = ap (λ ys. counted f k (map v ys)) (drop-at xs
 pub counted-get : {A : Type 0} (f : ℕ → A → List ℕ) (k : ℕ) (xs : List A) (i : ℕ) (d : A) → i < length xs → counted f k (drop i xs) ≡ f k (get_or xs i d) ++ counted f (k + 1) (drop (i + 1) xs)
 counted-get f k xs i d h = ap (counted f k) (drop_more xs i d h) ∙ counted-cons f k (get_or xs i d) (drop (i + 1) xs)
 
--- behind the last member
+-- after the last member
 pub counted-end : {A : Type 0} (f : ℕ → A → List ℕ) (k : ℕ) (xs : List A) (i : ℕ) → length xs ≤ i → counted f k (drop i xs) ≡ []
 counted-end f k xs i h = ap (counted f k) (drop_of_length-le xs h) ∙ counted-nil f k
 

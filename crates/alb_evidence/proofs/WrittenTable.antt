@@ -67,7 +67,7 @@ counted-nil f k = refl
 low : (a b : ℕ) → a ≤ b → nat_le a b ≡ true
 low a b h = grind (arith, nat_tests)
 
--- the generators up to the k-th are named, but for those behind the last one with an element
+-- the generators up to the k-th are named, but for those after the last one with an element
 pub record AreNamed (k : ℕ) (named all : List (Option ℕ)) : Type 0 where
   pub few : length named ≤ k
   pub is : named ++ replicate (k - length named) None ≡ all
@@ -299,7 +299,7 @@ module _ (p : ℕ) (letters : List ℕ) where
     unfolding say heading_of block_of table_of
     heading top h = rw h refl
 
-    -- the line of the top type, and the lines behind it
+    -- the line of the top type, and the lines after it
     abbrev first_line : List ℕ → List ℕ
     first_line top = codes "table" ++ spaced (type_text top ∷ [])
 

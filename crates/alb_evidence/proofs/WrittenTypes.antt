@@ -18,7 +18,7 @@ use Rattle.alb_evidence.specs.Block.{later_counts, counts_in, counts_of_tokens, 
 use Rattle.alb_check.specs.Raw.{AreCounts}
 use Rattle.alb_evidence.proofs.Written.{IsWord, are_plain, plain-append, decimal-numeral, numeral-word}
 
--- what stands behind the first count
+-- what stands after the first count
 abbrev closing : List ℕ → List ℕ
 closing [] = 41 ∷ []
 closing (c ∷ cs) = 44 ∷ (decimal c ++ closing cs)
@@ -52,7 +52,7 @@ counts-step : (a t : Token) (us : List Token) (c : ℕ) (cs : List ℕ) → a.ki
 unfolding counts_in
 counts-step a t us c cs ea et h eu = (λ i. if opens_bracket (ea i) then onto_counts (count_in (et i)) (eu i) else None) ∙ ap (λ o. onto_counts o (Some cs)) (count-is c h)
 
--- a count, and counts behind it
+-- a count, and counts after it
 abbrev Counts : ℕ → List ℕ → List Token → Type 0
 Counts c cs ts = (t : Token) × (us : List Token) × (ts ≡ t ∷ us) × (t.kind ≡ kinds.Number c) × (later_counts us ≡ Some cs)
 

@@ -34,7 +34,7 @@ unfoldable pub words : List ℕ → List (List ℕ)
 words [] = []
 words (b ∷ bs) = if is_blank b then words bs else if ends_word bs then (b ∷ []) ∷ words bs else onto_word b (words bs)
 
--- the first word, and the words behind it
+-- the first word, and the words after it
 abbrev pub cut : List (List ℕ) → Option (List ℕ × List (List ℕ))
 cut [] = None
 cut (w ∷ ws) = Some (w, ws)
@@ -84,7 +84,7 @@ abbrev pub or_bad_line : {A : Type 0} → Option A → Result A Code
 or_bad_line None = Err ABadLine
 or_bad_line (Some x) = Ok x
 
--- the first word, and the words behind it
+-- the first word, and the words after it
 abbrev pub first_word : List (List ℕ) → Result (List ℕ × List (List ℕ)) Code
 first_word ws = or_bad_line (cut ws)
 
@@ -193,7 +193,7 @@ kind_of p letters w ws =
     else if is_word (codes "sum") w then sum_from p ws
     else Err ABadLine
 
--- the words behind the number `n`
+-- the words after the number `n`
 unfoldable pub after_number : ℕ → List (List ℕ) → Result (List (List ℕ)) Code
 after_number n ws = do
   k ← first_word ws
@@ -215,7 +215,7 @@ abbrev pub count_in : TokenKind → Option ℕ
 count_in (kinds.Number n) = if nat_le n 255 then Some n else None
 count_in other = None
 
--- a count behind a comma
+-- a count after a comma
 abbrev pub later_count : TokenKind → TokenKind → Option ℕ
 later_count kinds.Comma k = count_in k
 later_count other k = None
@@ -232,7 +232,7 @@ abbrev pub onto_counts : Option ℕ → Option (List ℕ) → Option (List ℕ)
 onto_counts None ns = None
 onto_counts (Some n) ns = option_map (λ xs. n ∷ xs) ns
 
--- counts, each behind a comma, and the closing bracket
+-- counts, each after a comma, and the closing bracket
 unfoldable pub later_counts : List Token → Option (List ℕ)
 later_counts [] = None
 later_counts (t ∷ []) = if closes_bracket t.kind then Some [] else None
@@ -277,7 +277,7 @@ letter_number letters w = if length w == 1 then position (λ x. x == slice_index
 abbrev pub with_generator : List (Option ℕ) → ℕ → ℕ → List (Option ℕ)
 with_generator list g k = list ++ (replicate (g - length list) None ++ Some k ∷ [])
 
--- `LETTER K`: a generator that comes behind those before, and its element; generators stand before all entries
+-- `LETTER K`: a generator that comes after those before, and its element; generators stand before all entries
 unfoldable pub generator_of : List ℕ → Raw → List (List ℕ) → Result Raw Code
 generator_of letters t ws = do
   u ← must_hold (is_empty t.entries)
@@ -310,7 +310,7 @@ row_of p letters t w ws =
     else if is_word (codes "entry") w then entry_from p t ws
     else Err ABadLine
 
--- a line behind the heading of a table
+-- a line after the heading of a table
 unfoldable pub table_line : ℕ → List ℕ → Raw → List (List ℕ) → Result Raw Code
 table_line p letters t ws = do
   w ← first_word ws
@@ -318,7 +318,7 @@ table_line p letters t ws = do
 
 -- ---- the lines of a block
 
--- what the lines before say: nothing yet, the lines of a derivation, or a table, in which the places of the generators behind
+-- what the lines before say: nothing yet, the lines of a derivation, or a table, in which the places of the generators after
 -- the last named one are still missing
 pub data Said : Type 0 where
   Nothing : Said
@@ -381,7 +381,7 @@ is_skipped line = nat_le (length line) 65536 && are_skipped (words line)
 abbrev pub padded : ℕ → Raw → Raw
 padded n t = record t { generators = t.generators ++ replicate (n - length t.generators) None }
 
--- what is said behind all lines
+-- what is said after all lines
 abbrev pub whole : ℕ → Said → Result Evidence Code
 whole n Nothing = Err ABadLine
 whole n (Derivation ls) = Ok (Zero ls)
@@ -399,7 +399,7 @@ abbrev pub go_on : ℕ → Result Said Code → (Said → Result Evidence BlockF
 go_on k (Ok said) more = more said
 go_on k (Err code) more = Err (fault_at code k)
 
--- The same behind lines that say `said`, where the next counted line has the number `k`.
+-- The same after lines that say `said`, where the next counted line has the number `k`.
 unfoldable pub evidence_from : ℕ → List ℕ → ℕ → Said → List (List ℕ) → Bool → Result Evidence BlockFault
 evidence_from p letters k said [] has_end = closed (length letters) k said has_end
 evidence_from p letters k said (line ∷ lines) has_end =

@@ -29,7 +29,7 @@ abbrev pub HasNoEnd : List (List ℕ) → Type 0
 HasNoEnd [] = Unit {0}
 HasNoEnd (line ∷ lines) = (is_end line ≡ false) × HasNoEnd lines
 
--- behind the lines of a block comes the line `end`, or the end of the input
+-- after the lines of a block comes the line `end`, or the end of the input
 abbrev pub Closes : Bool → Reader → Reader → Option (List ℕ) → Option (List ℕ) → Type 0
 Closes true old new before now = (line : List ℕ) × (is_end line ≡ true) × ReadsLine old new before now line
 Closes false old new before now = Reads step.End old new before now

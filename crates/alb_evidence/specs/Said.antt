@@ -33,7 +33,7 @@ IsSaid p n Nothing = Unit {0}
 IsSaid p n (Derivation ls) = All (λ l. IsLine p n l) ls.items
 IsSaid p n (Table t) = IsRawPart p n (raw t)
 
--- what lines and what closes them say behind those that were read
+-- what lines and what closes them say after those that were read
 abbrev pub says : ℕ → List ℕ → Block → List (List ℕ) → Bool → Result value.Evidence BlockFault
 says p letters b lines has_end = evidence_from p letters b.next (said b.said) lines has_end
 

@@ -13,7 +13,7 @@ use alb_mono::{Letters, Multi};
 use alb_print::{write_named, write_type};
 use gf_field::Field;
 
-// Writes a type behind a space, and ends the line.
+// Writes a type after a space, and ends the line.
 fn write_typed<K: Sink>(sink: &mut K, t: &Multi) -> Result<(), WriteFault>
     ensures { Writes K.Sink sink.old sink.new (typed t.now) result }
 {

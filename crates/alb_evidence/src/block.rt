@@ -89,7 +89,7 @@ impl Block {
         }
     }
 
-    /// What the whole block says, behind which `end` came.
+    /// What the whole block says, after which `end` came.
     pub fn close(self, letters: &Letters) -> Result<Evidence, EvidenceError>
         ensures value { Closing result (closed (length letters.now) self.next (said self.said) true) }
         ensures evidence { (p : ℕ) → IsSaid p (length letters.now) self.said → IfOk result (IsEvidence p (length letters.now)) }

@@ -15,7 +15,7 @@ use alb_mono::{Letters, Mono, Side};
 use alb_print::{write_count, write_mono, write_named};
 use gf_field::{Field, Residue};
 
-// Writes a monomial behind a space.
+// Writes a monomial after a space.
 fn write_spaced<K: Sink>(sink: &mut K, letters: &Letters, m: &Mono) -> Result<(), WriteFault>
     requires { IsTrue (are_below (length letters.now) (tree m.now)) }
     ensures { Writes K.Sink sink.old sink.new (spaced_mono letters.now (tree m.now)) result }
@@ -24,7 +24,7 @@ fn write_spaced<K: Sink>(sink: &mut K, letters: &Letters, m: &Mono) -> Result<()
     write_mono(sink, letters, m)
 }
 
-// Writes monomials, each behind a space.
+// Writes monomials, each after a space.
 fn write_monos<K: Sink>(sink: &mut K, letters: &Letters, ms: &[Mono]) -> Result<(), WriteFault>
     requires { All (λ m. IsTrue (are_below (length letters.now) (tree m))) ms.now }
     ensures { Writes K.Sink sink.old sink.new (flat_map (spaced_mono letters.now) (map tree ms.now)) result }
@@ -74,7 +74,7 @@ fn write_times<K: Sink>(
     write_mono(sink, letters, m)
 }
 
-// Writes a multiple of a line behind a space.
+// Writes a multiple of a line after a space.
 fn write_item<K: Sink>(
     sink: &mut K,
     field: &Field,
@@ -89,7 +89,7 @@ fn write_item<K: Sink>(
     write_named(sink, b"*", earlier)
 }
 
-// Writes multiples of lines, each behind a space.
+// Writes multiples of lines, each after a space.
 fn write_items<K: Sink>(
     sink: &mut K,
     field: &Field,

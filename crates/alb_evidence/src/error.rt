@@ -2,7 +2,7 @@
 #[derive(Clone, Copy, Debug, PartialEq, Eq)]
 pub enum EvidenceError {
     /// The first faulty line has none of the forms that may stand there. Where the input ends before `end`, it is the line
-    /// behind the last one.
+    /// after the last one.
     BadLine { line: u64 },
     /// The first faulty line has a number of more than 18 digits.
     BadNumber { line: u64 },

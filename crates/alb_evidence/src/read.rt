@@ -64,7 +64,7 @@ fn skip_after<S: Source>(
 /// `BadLine` and `BadNumber` with the number of the first faulty line, and then the block was read to its end or to the end
 /// of the input. The words of a line are judged from left to right, and the first departure tells: `BadNumber` where digits
 /// in the place of a number or a coefficient, with or without a minus, are more than 18, and else `BadLine`. A line of more
-/// than 65,536 bytes is faulty. Where the input ends before `end`, the line behind the last one is. `ReadFault` where the
+/// than 65,536 bytes is faulty. Where the input ends before `end`, the line after the last one is. `ReadFault` where the
 /// source failed, `InputLimit` where as many bytes as may be taken were taken, and `NoMemory`.
 pub fn read_evidence<S: Source>(
     alloc: Global,

@@ -23,7 +23,7 @@ pub enum Said {
     Nothing,
     /// The lines of a derivation.
     Derivation(Vec<Line>),
-    /// A table; the places of the generators behind the last named one are still missing.
+    /// A table; the places of the generators after the last named one are still missing.
     Table(RawTable),
 }
 

@@ -25,7 +25,7 @@ fn count_of(kind: TokenKind) -> Option<u8>
     }
 }
 
-// A count behind a comma.
+// A count after a comma.
 fn later_count(first: TokenKind, second: TokenKind) -> Option<u8>
     ensures { result ≡ later_count first second }
 {
@@ -239,7 +239,7 @@ fn row_of(
     Err(Flaw::BadLine)
 }
 
-/// Takes a line of a table behind its heading. At an error the table may have changed.
+/// Takes a line of a table after its heading. At an error the table may have changed.
 #[tactic(auto, unfolding(crate::specs::Block::table_line))]
 pub fn table_line(
     alloc: Global,

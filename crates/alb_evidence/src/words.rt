@@ -47,7 +47,7 @@ pub fn first_star(text: &[u8]) -> Option<usize>
     text.iter().position(|b| *b == b'*')
 }
 
-/// The first word of a text, and the text behind it.
+/// The first word of a text, and the text after it.
 pub fn next_word(text: &[u8]) -> Option<(&[u8], &[u8])>
     ensures value { option_map (λ q. (q.0.now, words q.1.now)) result ≡ cut (words text.now) }
     ensures short { IfSome result (λ q. length q.0.now ≤ length text.now) }
@@ -61,7 +61,7 @@ pub fn next_word(text: &[u8]) -> Option<(&[u8], &[u8])>
     Some((text_before(rest, count), text_from(rest, count)))
 }
 
-/// The first word of a text, and the text behind it. There has to be one.
+/// The first word of a text, and the text after it. There has to be one.
 pub fn first_word(text: &[u8]) -> Result<(&[u8], &[u8]), Flaw>
     ensures value { Gives (λ q. (q.0.now, words q.1.now)) result (first_word (words text.now)) }
     ensures short { IfOk result (λ q. length q.0.now ≤ length text.now) }
@@ -186,7 +186,7 @@ pub fn coefficient(field: &Field, word: &[u8]) -> Result<Residue, Flaw>
     Ok((n % p) as Residue)
 }
 
-/// The text behind the number `wanted`, with which a line begins.
+/// The text after the number `wanted`, with which a line begins.
 #[tactic(auto, unfolding(crate::specs::Block::after_number))]
 pub fn numbered(text: &[u8], wanted: u64) -> Result<&[u8], Flaw>
     ensures value { Gives (λ t. words t.now) result (after_number wanted (words text.now)) }

@@ -116,7 +116,7 @@ Reads-line old mid new g h before now answer p m is step =
     Piecing-gives old mid new g h before now answer p is m.4 m.5
     (Gives-step _ line new h answer (step line (m.3 p.all p.gathered)) (HasNoFeed-append p.all m.0 p.no_feed m.1, inl whole))
 
--- the source ended behind bytes with no line feed
+-- the source ended after bytes with no line feed
 pub Reads-rest : (old new : Feeder) (h : Gathered) (before now : Option (List ℕ)) (answer : LineStep) → Piecing old new h before now → IsFeeder new → new.from ≡ new.to → new.at_end ≡ true
     → ((all : List ℕ) → IsGathered all h → IsStep all h.bytes.items answer)
     → ((all : List ℕ) → IsGathered all h → false ≡ eqb (length all) 0)

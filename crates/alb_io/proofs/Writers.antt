@@ -88,7 +88,7 @@ module _ {K : Type 0} {sink : Ghosts K} where
   pub Writing-all : {E : Type 0} {a b : K} {text left : List ℕ} {u : Unit {0}} → Writing sink a b text left → left ≡ [] → Writes {E = E} sink a b text (Ok u)
   Writing-all so_far none = Writes-ok (Writes-text (sym (so_far.whole ∙ ap (λ l. so_far.front ++ l) none ∙ append-nil so_far.front)) so_far.written)
 
--- what is left is its first bytes and those behind them
+-- what is left is its first bytes and those after them
 cut : (left : List ℕ) (n : ℕ) → left ≡ take n left ++ slice_range left n (length left)
 cut left n = rw (between_to_end left n (length left) (omega arith)) (sym (take-append-drop n left))
 

@@ -54,7 +54,7 @@ abbrev pub is_line : LineStep → Bool
 is_line step.Line = true
 is_line other = false
 
--- the answers behind which no line is read
+-- the answers after which no line is read
 abbrev pub is_last : LineStep → Bool
 is_last step.End = true
 is_last step.ReadFault = true

@@ -25,7 +25,7 @@ abbrev pub IsFile : Option Files → List ℕ → Type 0
 IsFile None name = ⊥
 IsFile (Some files) name = bytes_of files name ≢ None
 
--- the count rose at a fault, and stayed at want of memory
+-- the count rose at a fault, and stayed when memory ran out
 abbrev pub IsCauseOf : OpenError → ℕ → ℕ → Type 0
 IsCauseOf error.Failed before now = Rose before now
 IsCauseOf error.NoMemory before now = now ≡ before

@@ -94,8 +94,8 @@ abbrev pub sink_of : List ℕ → Option Stored → Taking
 sink_of name None = record { name = Some name; taken = []; piece = 2 ^ 64 - 1; failing = []; next = 0; faults = 0 }
 sink_of name (Some f) = record { name = Some name; taken = []; piece = f.piece; failing = f.failing; next = 0; faults = 0 }
 
--- What `open` answers: the file's source; a fault exactly where the call is listed or there is no such file; or want of
--- memory, which changes nothing.
+-- What `open` answers: the file's source; a fault exactly where the call is listed or there is no such file; or that
+-- memory ran out, which changes nothing.
 abbrev pub OpensFile : List ℕ → Result Giving OpenError → Shelf → Shelf → Type 0
 OpensFile name (Ok source) old new =
     (Contains old.failing old.next → ⊥) × ((f : Stored) × (file_named name old.files ≡ Some f) × (source ≡ source_of f)) × (new ≡ after_call old)

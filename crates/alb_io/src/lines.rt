@@ -9,7 +9,7 @@ use crate::{LineStep, NoMemory, Source};
 use std::alloc::Global;
 use std::marker::Model;
 
-/// Reads the lines of a source. A line ends before a line feed, and behind the last line feed what is
+/// Reads the lines of a source. A line ends before a line feed, and after the last line feed what is
 /// not empty is a line too. Contracts see what is held, how many bytes may still be taken, whether the
 /// end of the source was seen, whether the last answer was given, and the line that was answered last.
 #[derive(Drop)]
@@ -66,7 +66,7 @@ impl LineReader {
         step
     }
 
-    /// Whether the last answer was `End`, `ReadFault` or `InputLimit`, behind which no line is read.
+    /// Whether the last answer was `End`, `ReadFault` or `InputLimit`, after which no line is read.
     pub fn ended(&self) -> bool
         ensures { result ≡ self.now.ended }
     {

@@ -64,7 +64,7 @@ is_read b (Err fault) h = tt
 is_read b (Ok (block.Zero lines)) h = tt
 is_read b (Ok (block.NotZero t)) h = h t refl
 
--- what a block gives behind `build`
+-- what a block gives after `build`
 pub evidence-read : (b : Builder) (ls : List ℕ) (lines : List (List ℕ)) (has_end : Bool) → IsInTable b.field → length ls ≡ length b.counts → IsRead b (evidence_of b.field ls lines has_end)
 evidence-read b ls lines has_end field named =
     is_read b (evidence_of b.field ls lines has_end) (λ t is. subst (λ n. IsRaw b.field n t) named (evidence-raw b.field ls lines has_end t (table-positive b.field field) is))

@@ -54,7 +54,7 @@ fn write_places<K: Sink>(sink: &mut K, tuple: &[u64]) -> Result<(), WriteFault>
     put_all(sink, b"\n")
 }
 
-// Writes each element behind a blank.
+// Writes each element after a blank.
 fn write_elements<K: Sink>(sink: &mut K, tuple: &[u64]) -> Result<(), WriteFault>
     ensures { Writes K.Sink sink.old sink.new (flat_map (λ k. 32 ∷ decimal k) tuple.now) result }
 {

@@ -197,7 +197,7 @@ run_positive line at h e = omega (arith, run-more line at h e)
 pub run_within : (text : List ℕ) (i : ℕ) → 0 < digit_run (drop i text) → i < length text
 run_within text i pos = omega (arith, run-bound (drop i text), length-drop i text)
 
--- a token of one byte, and the tokens behind it
+-- a token of one byte, and the tokens after it
 pub one_byte : (k b : ℕ) (bs : List ℕ) (kind : TokenKind) → is_blank b ≡ false → is_ascii_digit b ≡ false → single b ≡ Some kind →
     tokens_from false k (b ∷ bs) ≡ onto (single_token k kind ∷ []) (tokens_from false (k + 1) bs)
 one_byte k b bs kind blank digit e =

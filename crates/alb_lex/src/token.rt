@@ -28,13 +28,13 @@ pub enum TokenKind {
 /// A token, and where it stands in its line.
 ///
 /// Places count the bytes of the whole line from 1: the first byte of the line has the place 1, and the end place,
-/// behind its last byte, is the line's length plus 1.
+/// after its last byte, is the line's length plus 1.
 #[derive(Clone, Copy, Debug, PartialEq, Eq)]
 pub struct Token {
     /// What the token is.
     pub kind: TokenKind,
     /// The place of its first byte.
     pub from: u32,
-    /// The place behind its last byte.
+    /// The place after its last byte.
     pub to: u32,
 }

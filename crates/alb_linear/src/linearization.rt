@@ -128,7 +128,7 @@ fn positions(m: &Mono) -> u8 {
     }
 }
 
-// A number behind another one: for each product in the monomial, how many leaves its left factor has and which positions. By
+// A number after another one: for each product in the monomial, how many leaves its left factor has and which positions. By
 // these numbers monomials of at most 8 different positions come in ascending order.
 fn number_behind(m: &Mono, number: u128) -> u128 {
     match m {

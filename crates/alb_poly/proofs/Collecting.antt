@@ -74,7 +74,7 @@ normal_front p front t done r s =
 
 -- ---- the loop
 
--- what is kept, from its end, is the normal form of the terms behind those that are left
+-- what is kept, from its end, is the normal form of the terms after those that are left
 pub record Collects (p : ℕ) (all kept left : List Term) : Type 0 where
   pub done : List Term
   pub split : all ≡ left ++ done

@@ -5,7 +5,7 @@ use Rattle.std.specs.List.{flat_map, join_with_byte}
 use Rattle.std.proofs.lemmas.List.{append-nil}
 use Rattle.std.proofs.lemmas.List.Concat.{flat_map-cons}
 
--- a count behind another one
+-- a count after another one
 abbrev pub later_count : ℕ → List ℕ
 later_count n = 44 ∷ decimal n
 

@@ -4,11 +4,11 @@ use Rattle.std.specs.List.{flat_map}
 use Rattle.std.proofs.lemmas.List.{drop_more, at_drop_more}
 use Rattle.std.proofs.lemmas.List.Concat.{flat_map-cons}
 
--- the members from a place on are the one there and those behind it
+-- the members from a place on are the one there and those after it
 pub drop-at : {A : Type 0} (xs : List A) (i : ℕ) (x : A) → i < length xs → x ≡ get_or xs i x → drop i xs ≡ x ∷ drop (i + 1) xs
 drop-at xs i x h e = drop_more xs i x h ∙ ap (λ y. y ∷ drop (i + 1) xs) (sym e)
 
--- their texts are that of the one there and those of the ones behind it
+-- their texts are that of the one there and those of the ones after it
 pub flat-at : {A B : Type 0} (f : A → List B) (xs : List A) (i : ℕ) (x : A) → i < length xs → x ≡ get_or xs i x → flat_map f (drop i xs) ≡ f x ++ flat_map f (drop (i + 1) xs)
 flat-at f xs i x h e = ap (flat_map f) (drop-at xs i x h e) ∙ flat_map-cons f x (drop (i + 1) xs)
 

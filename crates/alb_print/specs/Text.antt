@@ -30,14 +30,14 @@ absolute p r = if is_negative p r then p - r else r
 abbrev pub value_text : ℕ → ℕ → List ℕ
 value_text p r = if absolute p r == 1 then [] else decimal (absolute p r)
 
--- the sign of a first term, and of a term behind another one
+-- the sign of a first term, and of a term after another one
 abbrev pub leading_sign : ℕ → ℕ → List ℕ
 leading_sign p r = if is_negative p r then codes "-" else []
 
 abbrev pub later_sign : ℕ → ℕ → List ℕ
 later_sign p r = if is_negative p r then codes " - " else codes " + "
 
--- a coefficient with its sign: of a first term, and of a term behind another one
+-- a coefficient with its sign: of a first term, and of a term after another one
 abbrev pub leading_coefficient_text : ℕ → ℕ → List ℕ
 leading_coefficient_text p r = leading_sign p r ++ value_text p r
 
@@ -48,7 +48,7 @@ later_coefficient_text p r = later_sign p r ++ value_text p r
 abbrev pub term_text : ℕ → List ℕ → ℕ × Tree → List ℕ
 term_text p letters t = value_text p t.0 ++ mono_text letters false t.1
 
--- a first term, and a term behind another one
+-- a first term, and a term after another one
 abbrev pub leading_text : ℕ → List ℕ → ℕ × Tree → List ℕ
 leading_text p letters t = leading_sign p t.0 ++ term_text p letters t
 

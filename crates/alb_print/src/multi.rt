@@ -8,7 +8,7 @@ use crate::number::write_count;
 use alb_io::{Sink, WriteFault, put_all};
 use alb_mono::Multi;
 
-// Writes a count behind another one.
+// Writes a count after another one.
 fn write_later_count<K: Sink>(sink: &mut K, count: u8) -> Result<(), WriteFault>
     ensures { Writes K.Sink sink.old sink.new (44 ∷ decimal count) result }
 {
@@ -16,7 +16,7 @@ fn write_later_count<K: Sink>(sink: &mut K, count: u8) -> Result<(), WriteFault>
     write_count(sink, u64::from(count))
 }
 
-// Writes the counts behind the first one.
+// Writes the counts after the first one.
 fn write_later_counts<K: Sink>(sink: &mut K, counts: &[u8]) -> Result<(), WriteFault>
     ensures { Writes K.Sink sink.old sink.new (flat_map (λ n. 44 ∷ decimal n) counts.now) result }
 {

@@ -14,7 +14,7 @@ pub fn write_count<K: Sink>(sink: &mut K, number: u64) -> Result<(), WriteFault>
     put_all(sink, buffer.format(number).as_bytes())
 }
 
-/// Writes a word, and behind it a number that is not negative, in decimal.
+/// Writes a word, and after it a number that is not negative, in decimal.
 pub fn write_named<K: Sink>(sink: &mut K, word: &[u8], number: u64) -> Result<(), WriteFault>
     ensures { Writes K.Sink sink.old sink.new (named word.now number) result }
 {

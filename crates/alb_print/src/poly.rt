@@ -58,7 +58,7 @@ fn leading_sign(field: &Field, r: Residue) -> &'static [u8]
     if is_negative(field, r) { b"-" } else { b"" }
 }
 
-// The sign of a term behind another one.
+// The sign of a term after another one.
 fn later_sign(field: &Field, r: Residue) -> &'static [u8]
     ensures { result.now ≡ later_sign field.now r }
 {
@@ -83,7 +83,7 @@ pub fn write_leading_coefficient<K: Sink>(
     write_value(sink, field, r)
 }
 
-/// Writes the coefficient of a term behind another one: ` - ` where the signed residue is negative, else ` + `, and its
+/// Writes the coefficient of a term after another one: ` - ` where the signed residue is negative, else ` + `, and its
 /// absolute value, which is left out where it is 1.
 pub fn write_later_coefficient<K: Sink>(
     sink: &mut K,
@@ -97,7 +97,7 @@ pub fn write_later_coefficient<K: Sink>(
     write_value(sink, field, r)
 }
 
-// Writes a term behind another one.
+// Writes a term after another one.
 fn write_later<K: Sink>(
     sink: &mut K,
     field: &Field,
@@ -127,7 +127,7 @@ fn write_first<K: Sink>(
     write_mono(sink, letters, &t.mono)
 }
 
-// Writes the terms behind the first one.
+// Writes the terms after the first one.
 fn write_others<K: Sink>(
     sink: &mut K,
     field: &Field,

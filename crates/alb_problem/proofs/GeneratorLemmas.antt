@@ -82,7 +82,7 @@ fault-next ts end i d h =
     ap (λ r. fault_from (take i ts) r end) here
     ∙ ap (λ b. if may_follow (letters (take i ts)) (counts (take i ts)) (get_or ts i d).kind then fault_from b (drop (i + 1) ts) end else Some (get_or ts i d).from) (sym (take_more ts i d h))
 
--- what the loop keeps behind `i` tokens
+-- what the loop keeps after `i` tokens
 pub record Goes (ts : List Token) (end i : ℕ) (ls ns : List ℕ) : Type 0 where
   pub begun : AreBegun ls ns
   pub letters : ls ≡ letters (take i ts)
@@ -116,7 +116,7 @@ goes-wrong ts end i d ls ns h g wrong =
     let here : may_follow (letters (take i ts)) (counts (take i ts)) (get_or ts i d).kind ≡ false = rw (← g.letters, ← g.counts) wrong in
     g.so_far ∙ fault-next ts end i d h ∙ rw here refl
 
--- behind the last token
+-- after the last token
 pub goes-last : (ts : List Token) (end i : ℕ) (ls ns : List ℕ) → length ts ≤ i → Goes ts end i ls ns →
     (ls ≡ letters ts) × ((ns ≡ counts ts) × (fault_from [] ts end ≡ (if are_whole ls ns then None else Some end)))
 goes-last ts end i ls ns h g =

@@ -35,7 +35,7 @@ letters ts = flat_map (λ t. letter_of t.kind) ts
 abbrev pub counts : List Token → List ℕ
 counts ts = flat_map (λ t. count_of t.kind) ts
 
--- A token may stand behind letters and counts: a count from 1 on, with which the total is at most 12, where each count before
+-- A token may stand after letters and counts: a count from 1 on, with which the total is at most 12, where each count before
 -- has its letter; a letter a to z that did not stand before, where the last count has none.
 abbrev pub may_follow : List ℕ → List ℕ → TokenKind → Bool
 may_follow ls ns (Number n) = length ls == length ns && nat_lt 0 n && nat_le (sum ns + n) 12
@@ -46,7 +46,7 @@ may_follow ls ns other = false
 abbrev pub are_whole : List ℕ → List ℕ → Bool
 are_whole ls ns = nat_lt 0 (length ls) && length ls == length ns
 
--- the place of the first token that may not stand behind those before it, or of the end where no whole pairs are there
+-- the place of the first token that may not stand after those before it, or of the end where no whole pairs are there
 abbrev pub fault_from : List Token → List Token → ℕ → Option ℕ
 fault_from before [] end = if are_whole (letters before) (counts before) then None else Some end
 fault_from before (t ∷ ts) end =

@@ -113,7 +113,7 @@ impl ProblemBuilder {
         }
     }
 
-    /// Names the generators: pairs of a count and a letter, as `2a1b`. `end` is the place behind the last token.
+    /// Names the generators: pairs of a count and a letter, as `2a1b`. `end` is the place after the last token.
     ///
     /// # Errors
     /// `GeneratorsTwice` where they are named already; else `BadGenerators` at the first token that is no count from 1 on

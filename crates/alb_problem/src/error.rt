@@ -10,7 +10,7 @@ use alb_linear::IdentityError;
 pub enum ProblemError {
     /// The number of elements is not in the table of fields.
     NotInTable,
-    /// The field is named behind an identity.
+    /// The field is named after an identity.
     FieldAfterIdentity,
     /// There are generators already.
     GeneratorsTwice,
@@ -18,7 +18,7 @@ pub enum ProblemError {
     BadGenerators { place: u32 },
     /// There are 32 identities already.
     TooManyIdentities,
-    /// The polynomial is no identity, or its linearization has too many terms. Want of memory is never told by this.
+    /// The polynomial is no identity, or its linearization has too many terms. It never says that memory ran out.
     Identity(IdentityError),
     /// There are no generators.
     NoGenerators,

@@ -39,7 +39,7 @@ fn is_new(list: &[u8], letter: u8) -> bool
 }
 
 impl Pairs {
-    // Whether a token may stand behind these.
+    // Whether a token may stand after these.
     fn is_next(&self, kind: TokenKind) -> bool
         requires { AreBegun self.now.letters.items self.now.counts.items }
         ensures { result ≡ may_follow self.now.letters.items self.now.counts.items kind }
@@ -57,7 +57,7 @@ impl Pairs {
         }
     }
 
-    // Adds a token that may stand behind these.
+    // Adds a token that may stand after these.
     fn push(&mut self, kind: TokenKind)
         requires begun { AreBegun self.old.letters.items self.old.counts.items }
         requires next { IsTrue (may_follow self.old.letters.items self.old.counts.items kind) }

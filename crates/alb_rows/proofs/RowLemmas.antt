@@ -122,7 +122,7 @@ adds_nothing xs column =
     lt_step : {a b : ℕ} → a < b → a < b + 1
     lt_step h = omega arith
 
--- behind a cell of a row the columns are greater
+-- after a cell of a row the columns are greater
 next_after : (xs : Cells) (i : ℕ) → IsRow xs → NextFrom ((get_or xs i (0, 0)).0 + 1) xs (i + 1)
 next_after xs i h l = omega (arith, h.ascending i (i + 1) (0, 0) (omega arith) l)
 

@@ -1,4 +1,4 @@
--- An error of reading that is not want of memory tells no want of memory.
+-- An error of reading that does not say that memory ran out does not say so inside another one.
 use Rattle.std.proofs.Common.{◌≡◌, false, refl}
 use Rattle.alb_lex.specs.declared.error.LexError.TheVariants as lex
 use Rattle.alb_syntax.specs.declared.error.SyntaxError.TheVariants as syntax

@@ -157,7 +157,7 @@ degree_at total at line = number_argument at line >>= λ n. if nat_le 1 n && nat
 
 -- ---- commands
 
--- what a word asks for with the argument that stands behind it
+-- what a word asks for with the argument that stands after it
 unfoldable pub asked_by : ℕ → ℕ → List ℕ → Word → ℕ → List ℕ → Result Asked CommandError
 asked_by total p letters word.Field at line = number_argument at line >>= λ n. Ok (Field n)
 asked_by total p letters word.Generators at line = tokens_at at line >>= λ ts. Ok (Generators ts (length line + 1))
@@ -204,7 +204,7 @@ abbrev pub or_unknown : Option Word → Result Word CommandError
 or_unknown None = Err errors.Unknown
 or_unknown (Some w) = Ok w
 
--- a word that may stand before `build`, or behind it
+-- a word that may stand before `build`, or after it
 abbrev pub timely : Bool → Word → Result Word CommandError
 timely built w = if built && is_early w then Err errors.AlreadyBuilt else if not built && is_late w then Err errors.NotYetBuilt else Ok w
 
@@ -218,7 +218,7 @@ asked_at form built total p letters None line = Ok Blank
 asked_at form built total p letters (Some start) line =
     word_of built (command_word form line) >>= λ w. asked_by total p letters w (start + word_length (drop start line)) line
 
--- what a line asks for, or its first fault: in this form, before or behind `build`, up to this total degree, over a field of p elements and with these letters of the generators
+-- what a line asks for, or its first fault: in this form, before or after `build`, up to this total degree, over a field of p elements and with these letters of the generators
 unfoldable pub asked : Form → Bool → ℕ → ℕ → List ℕ → List ℕ → Result Asked CommandError
 asked form built total p letters line = asked_at form built total p letters (word_start line) line
 
@@ -252,7 +252,7 @@ view (commands.Claim f) = Claim f
 view (commands.Await n) = Await n
 view commands.Quit = Quit
 
--- the fault is that of the definition, and never want of memory inside another one, unless memory ran out
+-- the fault is that of the definition, and never says inside another one that memory ran out, unless memory ran out
 abbrev pub Fails : {Y : Type 0} → CommandError → Result Y CommandError → Type 0
 Fails errors.NoMemory read = Unit {0}
 Fails (errors.Lex lex.NoMemory) read = ⊥
@@ -264,7 +264,7 @@ Fails (errors.BadArgument place) read = read ≡ Err (errors.BadArgument place)
 Fails (errors.Lex e) read = read ≡ Err (errors.Lex e)
 Fails (errors.Syntax e) read = read ≡ Err (errors.Syntax e)
 
--- no want of memory stands inside another error
+-- no error says inside another one that memory ran out
 abbrev pub IsPlain : CommandError → Type 0
 IsPlain (errors.Lex lex.NoMemory) = ⊥
 IsPlain (errors.Syntax syntax.NoMemory) = ⊥

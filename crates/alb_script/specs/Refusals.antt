@@ -62,7 +62,7 @@ stated_text (refusals.TooManyLinear n) = line_with (codes "refused 34: ") (decim
 stated_text refusals.NoGenerators = codes "refused 43\n"
 stated_text refusals.FieldTooSmall = codes "refused 44\n"
 
--- the refusal that an error of an identity, or of a problem, tells; want of memory tells none
+-- the refusal that an error of an identity, or of a problem, tells; running out of memory tells none
 abbrev pub told_by_identity : IdentityError → Option refusals.ProblemRefusal
 told_by_identity identity.Zero = Some (refusals.NoIdentity linear.Zero)
 told_by_identity (identity.NotHomogeneous term) = Some (refusals.NoIdentity (linear.NotHomogeneous (tree term)))
@@ -86,13 +86,17 @@ abbrev pub or_nothing : Option refusals.ProblemRefusal → List ℕ
 or_nothing None = []
 or_nothing (Some r) = stated_text r
 
--- the line of a refusal; want of memory has none
+-- the line that answers one that is too long
+abbrev pub too_long_text : List ℕ
+too_long_text = codes "refused 84\n"
+
+-- the line of a refusal; running out of memory has none
 abbrev pub refusal_text : Refusal → List ℕ
-refusal_text refusal.TooLong = codes "refused 84\n"
+refusal_text refusal.TooLong = too_long_text
 refusal_text (refusal.Command e) = command_text e
 refusal_text (refusal.Problem e) = or_nothing (told_by_problem e)
 
--- ---- want of memory, by itself or inside another error
+-- ---- out of memory, by itself or inside another error
 
 abbrev pub is_lex_memory : LexError → Bool
 is_lex_memory lex.NoMemory = true

@@ -1,4 +1,4 @@
-//! What stands in a line behind its command word.
+//! What stands in a line after its command word.
 
 ghost use Rattle.std.specs.Prelude.{◌≡◌, ◌≤◌, ◌<◌, length, IfOk, IfSome};
 ghost use Rattle.alb_mono.specs.Tree.{alphabet};
@@ -139,7 +139,7 @@ fn identity_at(alloc: Global, field: &Field, argument: &Argument) -> Result<Poly
     poly_at(alloc, field, &Letters::all(), argument)
 }
 
-/// What a word asks for with the argument behind it.
+/// What a word asks for with the argument after it.
 #[tactic(auto, unfolding(crate::specs::Asked::asked_by))]
 pub fn asked_by(
     alloc: Global,

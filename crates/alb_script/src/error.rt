@@ -23,10 +23,10 @@ pub enum CommandError {
     /// The argument at this place is not what the command asks for.
     #[error("bad argument at byte {place}")]
     BadArgument { place: u32 },
-    /// The argument cannot be cut into tokens. It is never want of memory.
+    /// The argument cannot be cut into tokens. It never says that memory ran out.
     #[error("bad token: {0}")]
     Lex(LexError),
-    /// The argument is no polynomial. It is never want of memory.
+    /// The argument is no polynomial. It never says that memory ran out.
     #[error("bad polynomial: {0}")]
     Syntax(SyntaxError),
     /// There was no memory.

@@ -147,8 +147,8 @@ pub fn read_line(
     ensures exact { Gives view (or_error result) (asked place.form place.built place.total field.now letters.now line.now) }
     // A polynomial is over the field and over the letters that the word asks for.
     ensures read { IfOk result (λ c. IsCommandOver field.now (length letters.now) c) }
-    // No error tells want of memory inside another one.
-    ensures told { IfErr result (λ bad. IsPlain bad.error) }
+    // No error says inside another one that memory ran out.
+    ensures plain { IfErr result (λ bad. IsPlain bad.error) }
     // The word is the one that the line begins with.
     ensures word { IfErr result (λ bad. bad.word ≡ command_word place.form line.now) }
 {
@@ -187,8 +187,8 @@ pub fn read_command(
     ensures exact { Gives view result (asked form built total field.now letters.now line.now) }
     // A polynomial is over the field and over the letters that the word asks for.
     ensures read { IfOk result (λ c. IsCommandOver field.now (length letters.now) c) }
-    // No error tells want of memory inside another one.
-    ensures told { MatchResult result (λ c. Unit {0}) (λ e. IsPlain e) }
+    // No error says inside another one that memory ran out.
+    ensures plain { MatchResult result (λ c. Unit {0}) (λ e. IsPlain e) }
 {
     let place = ScriptPlace { form, built, total };
     match read_line(alloc, line, place, field, letters) {

@@ -145,7 +145,7 @@ fn write_problem<K: Sink>(sink: &mut K, error: &ProblemError) -> Result<(), Writ
 
 /// Writes the line that refuses a line: `refused C`, with ` at P` where the refusal has a place. A polynomial whose terms
 /// differ in type is refused by `refused 31: ` and the first such term over a to z, and one whose linearization is too long by
-/// `refused 34: ` and its number of terms. The refusal is not want of memory, and its term is over a to z. `letters` are the
+/// `refused 34: ` and its number of terms. The refusal does not say that memory ran out, and its term is over a to z. `letters` are the
 /// generators' letters, by which no refusal of today prints.
 pub fn write_refusal<K: Sink>(
     sink: &mut K,

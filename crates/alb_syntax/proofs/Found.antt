@@ -185,7 +185,7 @@ either_way true r q P h k x e = h refl x e
 either_way false r q P h k x e = k refl x e
 
 module _ (s : Setting) (n : ℕ) (bracket : PolyReader) (opens : FindsOpen s n bracket) where
-  -- behind an atom
+  -- after an atom
   power_behind : (front : List Token) (f : Poly) (us ts : List Token) (x : Poly × List Token) → ts ≡ front ++ us → Denotes s.field s.letters Atom n front f
       → cond (is_caret (next us)) (exponent s (place s us) f (after us)) (Ok (f, us)) ≡ Ok x → Found s Power n ts x
   unfolding exponent
@@ -219,7 +219,7 @@ module _ (s : Setting) (n : ℕ) (bracket : PolyReader) (opens : FindsOpen s n b
       (length w.0.1) a.front w.0.0 w.0.1 x (grammar.one_power n a.front w.0.0 a.denotes) w.2 in
       found_then s Juxt n ts w.0.1 a.front r.0 x a.whole r.1 r.2
 
-  -- behind a token of which a test is true
+  -- after a token of which a test is true
   star_part : (us : List Token) (f : Poly) (ts : List Token) (y : Poly × List Token) → Denotes s.field s.letters Jordan n us f → is_star (next ts) ≡ true → star s bracket f ts ≡ Ok y
       → (vs : List Token) × (ts ≡ vs ++ y.1) × Denotes s.field s.letters Jordan n (us ++ vs) y.0
   unfolding star
@@ -307,7 +307,7 @@ module _ (s : Setting) (n : ℕ) (bracket : PolyReader) (opens : FindsOpen s n b
       (length w.0.1) a.front w.0.0 w.0.1 x a.denotes w.2 in
       found_then s Sum n ts w.0.1 a.front r.0 x a.whole r.1 r.2
 
--- a sum was read, and a mark behind it
+-- a sum was read, and a mark after it
 record SumAnd (s : Setting) (n : ℕ) (is : Option TokenKind → Bool) (ts : List Token) (f : Poly) (us : List Token) : Type 0 where
   front : List Token
   mark : Token
@@ -350,7 +350,7 @@ module _ (s : Setting) (n : ℕ) (inside : PolyReader) (finds : Finds s Sum n in
         (λ j. commutator-any s.field o.from j x y f made);
   }
 
-  -- behind the third polynomial of an associator, behind the second, and behind the first
+  -- after the third polynomial of an associator, after the second, and after the first
   third_behind : (ts us vs : List Token) (x y : Poly) (z r : Poly × List Token) → o.kind ≡ kinds.Open → SumAnd s n is_comma ts x us → SumAnd s n is_comma us y vs → inside vs ≡ Ok z
       → (associator s.field o.from x y z.0 >>= λ g. must s is_close z.1 >>= λ ws. Ok (g, ws)) ≡ Ok r → Found s Atom (suc n) (o ∷ ts) r
   third_behind ts us vs x y z r eo a b i e =
@@ -386,7 +386,7 @@ module _ (s : Setting) (n : ℕ) (inside : PolyReader) (finds : Finds s Sum n in
       let x = bind_ok (inside ts) (λ y. cond (is_comma (next y.1)) (two_more s inside o.from y.0 (after y.1)) (must s is_close y.1 >>= λ us. Ok (y.0, us))) r e in
       first_behind ts x.0 r eo x.1 x.2
 
-  -- behind the second polynomial of a commutator
+  -- after the second polynomial of a commutator
   last_behind : (ts us : List Token) (x : Poly) (y r : Poly × List Token) → o.kind ≡ kinds.SquareOpen → SumAnd s n is_comma ts x us → inside us ≡ Ok y
       → (commutator s.field o.from x y.0 >>= λ g. must s is_square_close y.1 >>= λ vs. Ok (g, vs)) ≡ Ok r → Found s Atom (suc n) (o ∷ ts) r
   last_behind ts us x y r eo a i e =
@@ -414,7 +414,7 @@ bracketed-found s zero t ts x k e = absurd cc
 bracketed-found s (suc n) t ts x (inl k) e = round-found s n (poly s (bracketed s n)) (poly-found s n (bracketed s n) (bracketed-found s n)) t ts x k (rw k at e)
 bracketed-found s (suc n) t ts x (inr k) e = square-found s n (poly s (bracketed s n)) (poly-found s n (bracketed s n) (bracketed-found s n)) t ts x k (rw k at e)
 
--- no token is left behind the value
+-- no token is left after the value
 pub ended_nil : {V : Type 0} (g f : V) (ts : List Token) → ended g ts ≡ Ok f → (ts ≡ []) × (g ≡ f)
 ended_nil g f [] e = (refl, ok_is g f e)
 ended_nil g f (t ∷ ts) e = absurd cc

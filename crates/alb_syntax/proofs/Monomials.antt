@@ -89,7 +89,7 @@ nested-open : (s : Lettering) (n : ℕ) (t c : Token) (ts rest : List Token) (m 
 unfolding nested enclosed
 nested-open s n t c ts rest m e k = rw (e, k) refl
 
--- what reading gives at the tokens and whatever stands behind them
+-- what reading gives at the tokens and whatever stands after them
 abbrev Reads : Lettering → Shape → ℕ → List Token → Tree → Type 0
 Reads s Part n ts m = (rest : List Token) → (begins_part (next (ts ++ rest)) ≡ true) × (part s (nested s n) (ts ++ rest) ≡ Ok (m, rest))
 Reads s Product n ts m = (rest : List Token) → (begins_part (next (ts ++ rest)) ≡ true) × (mono s (nested s n) (ts ++ rest) ≡ each begins_part (next_part s (nested s n)) m rest)

@@ -1,4 +1,4 @@
--- Tokens between marks, and what stands behind them.
+-- Tokens between marks, and what stands after them.
 use Rattle.std.proofs.Common.{◌≡◌, List, [], ◌∷◌, ◌++◌, ◌∙◌, sym, ap, append_assoc}
 use Rattle.alb_lex.specs.declared.token.Token.{Token}
 

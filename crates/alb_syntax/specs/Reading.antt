@@ -78,7 +78,7 @@ raised p place x (suc k) f = do
   raised p place x k g
 
 -- ---- the grammar. A reader takes the tokens that are left. It gives the polynomial that the tokens at their front denote and the tokens
--- behind these, or the first fault
+-- after these, or the first fault
 
 -- what a text is read by: the field, the letters of the generators, and the end place of the text
 pub record Setting : Type 0 where
@@ -86,7 +86,7 @@ pub record Setting : Type 0 where
   pub letters : List ℕ
   pub end : ℕ
 
--- a value and the tokens behind it, or the first fault
+-- a value and the tokens after it, or the first fault
 abbrev pub ReadingOf : Type 0 → Type 0
 ReadingOf V = Result (V × List Token) SyntaxError
 
@@ -189,7 +189,7 @@ atom_at s bracket _ ts = unexpected s ts
 unfoldable pub atom : Setting → PolyReader → PolyReader
 atom s bracket ts = atom_at s bracket (next ts) ts
 
--- behind a caret, which stands at `at`: the exponent
+-- after a caret, which stands at `at`: the exponent
 abbrev pub exponent_at : Setting → ℕ → Poly → Option TokenKind → PolyReader
 exponent_at s at x (Some (kinds.Number n)) ts =
     if nat_le 1 n && nat_le n 64 then (raised s.field at x (n - 1) x >>= λ f. Ok (f, after ts)) else unexpected s ts
@@ -235,7 +235,7 @@ jprod s bracket ts = do
 
 -- ---- term = [number] jprod | number
 
--- behind the number `n`
+-- after the number `n`
 unfoldable pub multiple_from : Setting → PolyReader → ℕ → PolyReader
 multiple_from s bracket n ts =
     if begins_atom (next ts) then (jprod s bracket ts >>= λ x. Ok (multiple s.field n x.0, x.1))
@@ -272,7 +272,7 @@ poly s bracket ts = do
 
 -- ---- "(" poly ")",  "(" poly "," poly "," poly ")",  "[" poly "," poly "]"
 
--- behind a first poly and the comma, in the round bracket at `at`
+-- after a first poly and the comma, in the round bracket at `at`
 unfoldable pub two_more : Setting → PolyReader → ℕ → Poly → PolyReader
 two_more s inside at x ts = do
   y ← inside ts
@@ -282,13 +282,13 @@ two_more s inside at x ts = do
   vs ← must s is_close z.1
   Ok (f, vs)
 
--- behind an opening round bracket at `at`
+-- after an opening round bracket at `at`
 unfoldable pub round : Setting → PolyReader → ℕ → PolyReader
 round s inside at ts = do
   x ← inside ts
   if is_comma (next x.1) then two_more s inside at x.0 (after x.1) else (must s is_close x.1 >>= λ us. Ok (x.0, us))
 
--- behind an opening square bracket at `at`
+-- after an opening square bracket at `at`
 unfoldable pub square : Setting → PolyReader → ℕ → PolyReader
 square s inside at ts = do
   x ← inside ts
@@ -362,7 +362,7 @@ mono s bracket ts = do
 
 -- ---- nesting: a bracket inside which brackets nest at most `n - 1` deep, so none where `n` is 0
 
--- behind an opening bracket
+-- after an opening bracket
 unfoldable pub enclosed : Lettering → ReaderOf Tree → ReaderOf Tree
 enclosed s inside ts = do
   x ← inside ts

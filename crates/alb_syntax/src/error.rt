@@ -7,7 +7,7 @@ use alb_mono::NoMemory;
 use std::alloc::{AllocError, AllocFailed};
 use thiserror::Error;
 
-/// The first fault in reading order. Places count the bytes of the line from 1; the end place is the place behind the
+/// The first fault in reading order. Places count the bytes of the line from 1; the end place is the place after the
 /// last byte.
 #[derive(Clone, Copy, Debug, PartialEq, Eq, Error)]
 pub enum SyntaxError {

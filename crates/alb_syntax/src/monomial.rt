@@ -161,7 +161,7 @@ fn whole(alloc: Global, tokens: &[Token], end: u32, letters: &Letters) -> Result
 /// The monomial that the tokens spell, or the first fault in reading order.
 ///
 /// The grammar is `mono = part { part }`, `part = letter | "(" mono ")"`, and a row of parts is multiplied from the left,
-/// so `abc` is `(ab)c`. A letter is the generator whose letter it is. `end` is the place behind the last byte of the line.
+/// so `abc` is `(ab)c`. A letter is the generator whose letter it is. `end` is the place after the last byte of the line.
 ///
 /// # Errors
 /// `Expected` at a token, or at the end place, that cannot go on in the grammar; `UnknownLetter` at a letter that names no

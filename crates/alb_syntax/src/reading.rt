@@ -18,7 +18,7 @@ use alb_poly::{Poly, Term};
 use gf_field::Field;
 use std::alloc::Global;
 
-// The power by the exponent behind a caret, which stands at `at`.
+// The power by the exponent after a caret, which stands at `at`.
 #[tactic(auto, unfolding(crate::specs::Reading::exponent))]
 fn exponent<'a>(
     alloc: Global,
@@ -69,7 +69,7 @@ fn bracket<'a>(
     }
 }
 
-// What stands behind an opening round bracket at `at`: a polynomial, or an associator.
+// What stands after an opening round bracket at `at`: a polynomial, or an associator.
 #[cycle(parser)]
 #[tactic(auto, unfolding(crate::specs::Reading::round))]
 fn round<'a>(
@@ -92,7 +92,7 @@ fn round<'a>(
     }
 }
 
-// What stands behind the first polynomial of an associator and its comma.
+// What stands after the first polynomial of an associator and its comma.
 #[cycle(parser)]
 #[tactic(auto, unfolding(crate::specs::Reading::two_more))]
 fn two_more<'a>(
@@ -123,7 +123,7 @@ fn two_more<'a>(
     }
 }
 
-// What stands behind an opening square bracket at `at`: a commutator.
+// What stands after an opening square bracket at `at`: a commutator.
 #[cycle(parser)]
 #[tactic(auto, unfolding(crate::specs::Reading::square))]
 fn square<'a>(
@@ -240,7 +240,7 @@ fn juxt<'a>(
     Ok((f, rest))
 }
 
-// One more star and what stands behind it.
+// One more star and what stands after it.
 #[cycle(parser)]
 #[tactic(auto, unfolding(crate::specs::Reading::star))]
 fn star<'a>(
@@ -280,7 +280,7 @@ fn jprod<'a>(
     Ok((f, rest))
 }
 
-// A product, perhaps behind a number, or the number 0 by itself.
+// A product, perhaps after a number, or the number 0 by itself.
 #[cycle(parser)]
 #[tactic(auto, unfolding(crate::specs::Reading::term, crate::specs::Reading::multiple_from, crate::specs::Reading::multiple))]
 fn term<'a>(
@@ -444,7 +444,7 @@ fn whole(
 /// A letter is its generator, and a number before a product multiplies it by the number's residue. A number by itself is 0.
 /// `x*y` is the Jordan product `xy + yx`, `(x,y,z)` the associator `(xy)z - x(yz)` and `[x,y]` the commutator `xy - yx`
 /// (Zhevlakov, Slinko, Shestakov, Shirshov, *Rings That Are Nearly Associative*, chapters 1 to 3, up to the factor of `*`).
-/// Rows of factors and of stars, and powers, are multiplied from the left. `end` is the place behind the last byte of the line.
+/// Rows of factors and of stars, and powers, are multiplied from the left. `end` is the place after the last byte of the line.
 ///
 /// Tokens are judged from left to right. Each operation is carried out right after its last operand was read; an associator
 /// carries out `xy`, `(xy)z`, `yz`, `x(yz)` and the difference, a commutator `xy`, `yx` and the difference, a star `xy`, `yx` and

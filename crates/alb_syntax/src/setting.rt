@@ -38,7 +38,7 @@ pub fn next(tokens: &[Token]) -> Option<TokenKind>
     }
 }
 
-/// The tokens behind the next one.
+/// The tokens after the next one.
 pub fn after(tokens: &[Token]) -> &[Token]
     ensures { result.now ≡ after tokens.now }
 {

@@ -26,7 +26,7 @@ pub fn put_together(alloc: Global, field: &Field, list: Vec<Term>) -> Result<Pol
     Ok(f)
 }
 
-// The terms of a polynomial behind the others.
+// The terms of a polynomial after the others.
 fn appended(list: Vec<Term>, x: Poly) -> Result<Vec<Term>, SyntaxError>
     ensures { Gives (λ v. terms v.items) result (Ok (terms list.items ++ x)) }
 {

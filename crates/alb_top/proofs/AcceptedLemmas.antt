@@ -52,7 +52,7 @@ module _ (s : State) (is_check : IsCheck s) (sound : IsSoundState s) (built : s.
     verdict = v;
     judged = is;
     justified = verdict-justified s.problem g (given lines) v sound.problem (sound.accepted built) (read-evidence s lines true sound built) is;
-    told = refl;
+    responds = refl;
   }
 
   end-step : (lines : List (List ℕ)) (v : Verdict) → IsVerdict s.problem.field s.problem.counts (forms_of s.problem) g (given lines) v
@@ -62,7 +62,7 @@ module _ (s : State) (is_check : IsCheck s) (sound : IsSoundState s) (built : s.
     answers = subst (λ c. AnswersLine c (inside lines) (codes "end") (Judged v) (respond (Judged v) (shut s)).1) (sym asks.runs)
         (subst (λ b. OfBlock b (inside lines) (codes "end") (Judged v) (respond (Judged v) (shut s)).1) (sym end-is_end) (judged lines v is));
     shows = refl;
-    told = refl;
+    responds = refl;
   }
 
   -- a claim and the text of its evidence are answered by the verdict alone
@@ -109,7 +109,7 @@ obeyed s new line text shown a asks st =
     let free : Commands (nat_lt 65536 (length line)) s line st.response new = subst (λ o. AnswersIn o s line st.response new) asks.outside out in
     let short : nat_lt 65536 (length line) ≡ false = (let h = asks.short in grind (arith, nat_tests)) in
     let is : ObeysLine s line (asked_of s line) st.response new = subst (λ b. Commands b s line st.response new) short free in
-    (st.response, subst (λ (r : Result Asked CommandError). ObeysLine s line r st.response new) asks.asked is, st.told)
+    (st.response, subst (λ (r : Result Asked CommandError). ObeysLine s line r st.response new) asks.asked is, st.responds)
 
 -- `prove` of a shot
 found-proved : (o : Option Shot) (old new : State) (g : Poly) (response : Response) → old.shot ≡ o → IsProblem old.problem → HasBuilt old.problem o → FindsBy o old (questions.Prove g) response new
@@ -121,7 +121,7 @@ found-proved (Some s) old new g response is problem right e = record {
   evidence = proof_text old.problem.letters s.table e.finding;
   asked = is;
   found = e.is;
-  text_is = ap (λ x. text_of x.1 x.0) e.told ∙ ap (λ o. found_text old.problem.letters o e.finding) is ∙ proof-printed (rules_of old.problem) old.problem.letters s.table g e.finding e.is;
+  text_is = ap (λ x. text_of x.1 x.0) e.responds ∙ ap (λ o. found_text old.problem.letters o e.finding) is ∙ proof-printed (rules_of old.problem) old.problem.letters s.table g e.finding e.is;
   accepts = λ v due s' claim reached same built asks. accepted-by s' old.problem claim (proof_text old.problem.letters s.table e.finding) g v reached same built asks
       (proofs-accepted old.problem s.table g e.finding v problem right.right e.is due);
 }

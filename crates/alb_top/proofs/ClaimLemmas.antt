@@ -47,14 +47,14 @@ judges : (m : Form) (q : Problem) (clean : Bool) (f : Poly) (lines : List (List 
     → IsAccepted q → IsSoundState (claiming m q clean) → evidence_of q.rules.field q.letters lines has_end ≡ seen → IsVerdict q.rules.field q.rules.target (forms q.rules) f seen (judgement v)
     → (responses.Judged (judgement v), state next) ≡ respond (responses.Judged (judgement v)) (claiming m q clean)
     → JudgesClaim (record (claiming m q clean) { block = Claimed f lines }) f (evidence_of q.rules.field q.letters lines has_end) (responses.Judged (judgement v)) (state next)
-judges m q clean f lines has_end seen v next a sound read is told =
+judges m q clean f lines has_end seen v next a sound read is responds =
     let stands : IsVerdict q.rules.field q.rules.target (forms_of (problem q)) f (evidence_of q.rules.field q.letters lines has_end) (judgement v) =
     subst (λ fs. IsVerdict q.rules.field q.rules.target fs f (evidence_of q.rules.field q.letters lines has_end) (judgement v)) (forms-rules q a)
     (subst (λ (r : Result block.Evidence block.BlockFault). IsVerdict q.rules.field q.rules.target (forms q.rules) f r (judgement v)) (sym read) is) in
     record {
       verdict = judgement v;
       judged = stands;
-      told = told;
+      responds = responds;
       justified = verdict-justified (problem q) f (evidence_of q.rules.field q.letters lines has_end) (judgement v) sound.problem (sound.accepted refl) (evidence-read (problem q) q.letters lines has_end a.prime a.named) stands;
     }
 
@@ -63,9 +63,9 @@ judged-taken : (old new : Reader) (m : Form) (q : Problem) (clean : Bool) (f : P
     → evidence_of q.rules.field q.letters lines has_end ≡ seen → IsVerdict q.rules.field q.rules.target (forms q.rules) f seen (judgement v)
     → (responses.Judged (judgement v), state next) ≡ respond (responses.Judged (judgement v)) (claiming m q clean)
     → ended ≡ new.ended → taken ≡ (if ended then took.Last (response.Judged v) next else took.Response (response.Judged v) next) → TakesTurn taken old new (claimed f (claiming m q clean)) now now'
-judged-taken old new m q clean f now now' lines has_end seen v next ended taken a sound r read is told e was =
+judged-taken old new m q clean f now now' lines has_end seen v next ended taken a sound r read is responds e was =
     let mid : State = record (claiming m q clean) { block = Claimed f lines } in
-    let j : JudgesClaim mid f (evidence_of q.rules.field q.letters lines has_end) (responses.Judged (judgement v)) (state next) = judges m q clean f lines has_end seen v next a sound read is told in
+    let j : JudgesClaim mid f (evidence_of q.rules.field q.letters lines has_end) (responses.Judged (judgement v)) (state next) = judges m q clean f lines has_end seen v next a sound read is responds in
     block-taken old new (claimed f (claiming m q clean)) mid now now' lines has_end ended (response.Judged v) next taken r (inside-claimed (claiming m q clean) f [] lines refl r.no_end) refl
     (λ line k h. subst (λ b. OfBlock b mid line (responses.Judged (judgement v)) (state next)) (sym k)
     (subst (λ b. JudgesClaim mid f (evidence_of q.rules.field q.letters lines b) (responses.Judged (judgement v)) (state next)) h j))
@@ -75,24 +75,24 @@ claim_taken : (old new : Reader) (m : Form) (q : Problem) (clean : Bool) (f : Po
     (v : Verdict) (next : Script) (ended : Bool) (taken : Taken) → IsAccepted q → IsSoundState (claiming m q clean) → ReadsAs read q.rules.field q.letters old new now now'
     → views.JudgeAnswers (judged.Verdict v) q f read → (responses.Judged (judgement v), state next) ≡ respond (responses.Judged (judgement v)) (claiming m q clean)
     → ended ≡ new.ended → taken ≡ (if ended then took.Last (response.Judged v) next else took.Response (response.Judged v) next) → TakesTurn taken old new (claimed f (claiming m q clean)) now now'
-claim_taken old new m q clean f now now' (Ok x) v next ended taken a sound r j told e was =
-    judged-taken old new m q clean f now now' r.0 true (Ok (evidence x)) v next ended taken a sound r.1 r.2 j told e was
-claim_taken old new m q clean f now now' (Err (given.BadLine k)) v next ended taken a sound r j told e was =
-    judged-taken old new m q clean f now now' r.0 r.1 (Err (block.BadLine k)) v next ended taken a sound r.2 r.3 j told e was
-claim_taken old new m q clean f now now' (Err (given.BadNumber k)) v next ended taken a sound r j told e was =
-    judged-taken old new m q clean f now now' r.0 r.1 (Err (block.BadNumber k)) v next ended taken a sound r.2 r.3 j told e was
-claim_taken old new m q clean f now now' (Err given.ReadFault) v next ended taken a sound r j told e was = absurd j
-claim_taken old new m q clean f now now' (Err given.InputLimit) v next ended taken a sound r j told e was = absurd j
-claim_taken old new m q clean f now now' (Err given.NoMemory) v next ended taken a sound r j told e was = absurd j
+claim_taken old new m q clean f now now' (Ok x) v next ended taken a sound r j responds e was =
+    judged-taken old new m q clean f now now' r.0 true (Ok (evidence x)) v next ended taken a sound r.1 r.2 j responds e was
+claim_taken old new m q clean f now now' (Err (given.BadLine k)) v next ended taken a sound r j responds e was =
+    judged-taken old new m q clean f now now' r.0 r.1 (Err (block.BadLine k)) v next ended taken a sound r.2 r.3 j responds e was
+claim_taken old new m q clean f now now' (Err (given.BadNumber k)) v next ended taken a sound r j responds e was =
+    judged-taken old new m q clean f now now' r.0 r.1 (Err (block.BadNumber k)) v next ended taken a sound r.2 r.3 j responds e was
+claim_taken old new m q clean f now now' (Err given.ReadFault) v next ended taken a sound r j responds e was = absurd j
+claim_taken old new m q clean f now now' (Err given.InputLimit) v next ended taken a sound r j responds e was = absurd j
+claim_taken old new m q clean f now now' (Err given.NoMemory) v next ended taken a sound r j responds e was = absurd j
 
 -- a claim was judged
 pub claim-taken : (old new : Reader) (s : State) (q : Problem) (f : Poly) (now now' : Option (List ℕ)) (read : Result Evidence EvidenceError)
     (v : Verdict) (next : Script) (ended : Bool) (taken : Taken) → s ≡ claiming s.form q s.clean → IsAccepted q → IsSoundState s → ReadsAs read q.rules.field q.letters old new now now'
     → views.JudgeAnswers (judged.Verdict v) q f read → (responses.Judged (judgement v), state next) ≡ respond (responses.Judged (judgement v)) s
     → ended ≡ new.ended → taken ≡ (if ended then took.Last (response.Judged v) next else took.Response (response.Judged v) next) → TakesTurn taken old new (claimed f s) now now'
-claim-taken old new s q f now now' read v next ended taken is a sound r j told e was =
+claim-taken old new s q f now now' read v next ended taken is a sound r j responds e was =
     subst (λ (t : State). TakesTurn taken old new (claimed f t) now now') (sym is)
-    (claim_taken old new s.form q s.clean f now now' read v next ended taken a (subst (λ (t : State). IsSoundState t) is sound) r j (told ∙ ap (respond (responses.Judged (judgement v))) is) e was)
+    (claim_taken old new s.form q s.clean f now now' read v next ended taken a (subst (λ (t : State). IsSoundState t) is sound) r j (responds ∙ ap (respond (responses.Judged (judgement v))) is) e was)
 
 -- a claim's block broke off
 pub claim-read_fault : (old new : Reader) (s : State) (p : ℕ) (letters : List ℕ) (f : Poly) (now now' : Option (List ℕ)) (read : Result Evidence EvidenceError) → s.closed ≡ false

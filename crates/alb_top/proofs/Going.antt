@@ -179,7 +179,7 @@ module _ (opening : State) (ready : IsSoundState opening) where
   ended_transcript input taken lines shown text script next response all is run going ends = record {
     shown = shown;
     last = next;
-    answers = (text, text_of next response, script, refl, subst (λ l. Run Step opening l shown text script) (sym (ap lines_of all ∙ is)) run, record { response = response; answers = subst (λ c. AnswersEnd c script response next) (sym going) ends; told = refl });
+    answers = (text, text_of next response, script, refl, subst (λ l. Run Step opening l shown text script) (sym (ap lines_of all ∙ is)) run, record { response = response; answers = subst (λ c. AnswersEnd c script response next) (sym going) ends; responds = refl });
     judged = refl;
   }
 

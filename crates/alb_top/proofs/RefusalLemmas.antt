@@ -29,27 +29,27 @@ pub record IsTold (e : ProblemError) (found : Option refusals.ProblemRefusal) : 
   pub refuses : by_problem (told_by_problem e) ≡ OfProblem refusal
   pub memory : is_problem_memory e ≡ false
 
-pub told : (e : ProblemError) (found : Option refusals.ProblemRefusal) → TellsRefusal e found → IsTold e found
-told error.NotInTable found h = record { refusal = refusals.NotInTable; found_is = h; refuses = refl; memory = refl }
-told error.FieldAfterIdentity found h = record { refusal = refusals.FieldAfterIdentity; found_is = h; refuses = refl; memory = refl }
-told error.GeneratorsTwice found h = record { refusal = refusals.GeneratorsTwice; found_is = h; refuses = refl; memory = refl }
-told (error.BadGenerators place) found h = record { refusal = refusals.BadGenerators place; found_is = h; refuses = refl; memory = refl }
-told error.TooManyIdentities found h = record { refusal = refusals.TooManyIdentities; found_is = h; refuses = refl; memory = refl }
-told (error.Identity linear.Zero) found h = record { refusal = refusals.NoIdentity identity.Zero; found_is = h; refuses = refl; memory = refl }
-told (error.Identity (linear.NotHomogeneous m)) found h = record { refusal = refusals.NoIdentity (identity.NotHomogeneous (tree m)); found_is = h; refuses = refl; memory = refl }
-told (error.Identity linear.DegreeOne) found h = record { refusal = refusals.NoIdentity identity.DegreeOne; found_is = h; refuses = refl; memory = refl }
-told (error.Identity linear.DegreeOver8) found h = record { refusal = refusals.NoIdentity identity.DegreeOver8; found_is = h; refuses = refl; memory = refl }
-told (error.Identity (linear.TooManyLinear n)) found h = record { refusal = refusals.TooManyLinear n; found_is = h; refuses = refl; memory = refl }
-told (error.Identity linear.NoMemory) found h = absurd h
-told error.NoGenerators found h = record { refusal = refusals.NoGenerators; found_is = h; refuses = refl; memory = refl }
-told error.FieldTooSmall found h = record { refusal = refusals.FieldTooSmall; found_is = h; refuses = refl; memory = refl }
-told error.NoMemory found h = absurd h
+pub responds : (e : ProblemError) (found : Option refusals.ProblemRefusal) → TellsRefusal e found → IsTold e found
+responds error.NotInTable found h = record { refusal = refusals.NotInTable; found_is = h; refuses = refl; memory = refl }
+responds error.FieldAfterIdentity found h = record { refusal = refusals.FieldAfterIdentity; found_is = h; refuses = refl; memory = refl }
+responds error.GeneratorsTwice found h = record { refusal = refusals.GeneratorsTwice; found_is = h; refuses = refl; memory = refl }
+responds (error.BadGenerators place) found h = record { refusal = refusals.BadGenerators place; found_is = h; refuses = refl; memory = refl }
+responds error.TooManyIdentities found h = record { refusal = refusals.TooManyIdentities; found_is = h; refuses = refl; memory = refl }
+responds (error.Identity linear.Zero) found h = record { refusal = refusals.NoIdentity identity.Zero; found_is = h; refuses = refl; memory = refl }
+responds (error.Identity (linear.NotHomogeneous m)) found h = record { refusal = refusals.NoIdentity (identity.NotHomogeneous (tree m)); found_is = h; refuses = refl; memory = refl }
+responds (error.Identity linear.DegreeOne) found h = record { refusal = refusals.NoIdentity identity.DegreeOne; found_is = h; refuses = refl; memory = refl }
+responds (error.Identity linear.DegreeOver8) found h = record { refusal = refusals.NoIdentity identity.DegreeOver8; found_is = h; refuses = refl; memory = refl }
+responds (error.Identity (linear.TooManyLinear n)) found h = record { refusal = refusals.TooManyLinear n; found_is = h; refuses = refl; memory = refl }
+responds (error.Identity linear.NoMemory) found h = absurd h
+responds error.NoGenerators found h = record { refusal = refusals.NoGenerators; found_is = h; refuses = refl; memory = refl }
+responds error.FieldTooSmall found h = record { refusal = refusals.FieldTooSmall; found_is = h; refuses = refl; memory = refl }
+responds error.NoMemory found h = absurd h
 
 -- the response to what is refused
-pub unless-told : (e : ProblemError) (found : Option refusals.ProblemRefusal) (taken : Response) (new old : Builder) → TellsRefusal e found
+pub unless-responds : (e : ProblemError) (found : Option refusals.ProblemRefusal) (taken : Response) (new old : Builder) → TellsRefusal e found
     → (Refused (by_problem (told_by_problem e)), old) ≡ unless found taken new old
-unless-told e found taken new old h =
-    let t = told e found h in
+unless-responds e found taken new old h =
+    let t = responds e found h in
     ap (λ r. (Refused r, old)) t.refuses ∙ sym (ap (λ o. unless o taken new old) t.found_is)
 
 -- ---- terms are over the letters a to z
@@ -77,7 +77,7 @@ over_alphabet error.NoMemory found k h = absurd h
 
 -- such a refusal can be written
 pub written : (e : ProblemError) (found : Option refusals.ProblemRefusal) → NamesKnown found → TellsRefusal e found → CanBeWritten (refusal.Problem e)
-written e found k h = record { memory = (told e found h).memory; known = over_alphabet e found k h }
+written e found k h = record { memory = (responds e found h).memory; known = over_alphabet e found k h }
 
 field_known : (a b : Bool) → NamesKnown (if a then Some refusals.FieldAfterIdentity else if b then None else Some refusals.NotInTable)
 field_known true b = tt
@@ -156,11 +156,11 @@ identity-known b f h =
 
 -- the response to what is refused, unless memory ran out
 pub record IsRefusal (b : Builder) (found : Option refusals.ProblemRefusal) (taken : Response) (new : Builder) (r : Rust.Response) : Type 0 where
-  pub told : (response_of r, b) ≡ unless found taken new b
+  pub responds : (response_of r, b) ≡ unless found taken new b
   pub written : IsWritten r
 
 refused_for : (e : ProblemError) (b new : Builder) (found : Option refusals.ProblemRefusal) (taken : Response) → NamesKnown found → TellsRefusal e found → IsRefusal b found taken new (response.Refused (refusal.Problem e))
-refused_for e b new found taken k h = record { told = unless-told e found taken new b h; written = written e found k h }
+refused_for e b new found taken k h = record { responds = unless-responds e found taken new b h; written = written e found k h }
 
 pub refused-unless : (e : ProblemError) (b new : Builder) (found : Option refusals.ProblemRefusal) (taken : Response) → NamesKnown found → AnswersOrNoMemory {X = ℕ} (Err e) found
     → IfOk (of_problem e) (IsRefusal b found taken new)

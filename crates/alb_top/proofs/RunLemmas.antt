@@ -46,9 +46,9 @@ Run-closed s (line ∷ lines) closed = (
   s,
   refl,
   refl,
-  record { response = Nothing; answers = subst (λ c. AnswersLine c s line Nothing s) (sym closed) (refl, refl); shows = refl; told = refl },
+  record { response = Nothing; answers = subst (λ c. AnswersLine c s line Nothing s) (sym closed) (refl, refl); shows = refl; responds = refl },
   Run-closed s lines closed,
 )
 
 pub Finish-closed : (s : State) → s.closed ≡ true → Finish s [] s
-Finish-closed s closed = record { response = Nothing; answers = subst (λ c. AnswersEnd c s Nothing s) (sym closed) (refl, refl); told = refl }
+Finish-closed s closed = record { response = Nothing; answers = subst (λ c. AnswersEnd c s Nothing s) (sym closed) (refl, refl); responds = refl }

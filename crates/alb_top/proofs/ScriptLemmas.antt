@@ -47,7 +47,7 @@ found m f t closed clean q x h sound is = record {
   finding = x;
   is = is;
   holds = findings-true (problem t.problem) t.tables q x (record { sound = sound; accepted = accepted-finish t.problem h.accepted }) (topic-built t h).right is;
-  told = refl;
+  responds = refl;
 }
 
 -- a question as a command
@@ -58,9 +58,9 @@ by-question asking.Dimensions q old new response h is e = let same : questions.D
 by-question asking.Table q old new response h is e = let same : questions.Products ≡ q = cc in subst (λ x. FindsBy old.shot old x response new) (sym same) e
 by-question a q old new response h is e = absurd h
 
-pub question-told : (s : Script) (t : Topic) (a : Asked) (q : questions.Question) (x : Finding) → s.stage ≡ stage.Asking t → IsTopic t → IsSoundProblem (state s).problem → IsQuestion a
+pub question-responds : (s : Script) (t : Topic) (a : Asked) (q : questions.Question) (x : Finding) → s.stage ≡ stage.Asking t → IsTopic t → IsSoundProblem (state s).problem → IsQuestion a
     → question_in a ≡ Some q → IsFinding (rules_of (problem t.problem)) t.tables q x → Obeys (state s) a (Found x) (state s)
-question-told s t a q x is h sound asks e found_is =
+question-responds s t a q x is h sound asks e found_is =
     let same : state s ≡ state_at s.mode s.form (stage.Asking t) s.closed s.clean = ap (λ (u : Stage). state_at s.mode s.form u s.closed s.clean) is in
     subst (λ (u : State). Obeys u a (Found x) u) (sym same)
     (by-question a q _ _ (Found x) asks e
@@ -94,15 +94,15 @@ begun mode.Batch f b closed clean q r (stage.Asking t) whole a e =
     record {
       shot = shot_of t;
       built = subst (λ c. IsBuilt (rules_of c) (shot_of t)) same (topic-built t e.1);
-      told = ap₂ (λ (x : Rust.Response) (c : Builder). (response_of x, record (state_at mode.Batch f (stage.Asking t) closed clean) { problem = c })) e.2 same;
+      responds = ap₂ (λ (x : Rust.Response) (c : Builder). (response_of x, record (state_at mode.Batch f (stage.Asking t) closed clean) { problem = c })) e.2 same;
     }
 begun mode.Check f b closed clean q r (stage.Claiming c) whole a e =
     ap₂ (λ (x : Rust.Response) (d : Builder). (response_of x, record (state_at mode.Check f (stage.Claiming c) closed clean) { problem = d })) e.1 (ap problem e.0 ∙ whole)
 begun m f b closed clean q r u whole a e = absurd e
 
-pub begins-told : (m : Mode) (f : Form) (b : Builder) (closed clean : Bool) (q : Problem) (r : Rust.Response) (u : Stage) → finish_refusal b ≡ None → problem q ≡ b → IsAccepted q → Begins m q r u
+pub begins-responds : (m : Mode) (f : Form) (b : Builder) (closed clean : Bool) (q : Problem) (r : Rust.Response) (u : Stage) → finish_refusal b ≡ None → problem q ≡ b → IsAccepted q → Begins m q r u
     → BuildsUnless (finish_refusal b) (record (state_at m f u closed clean) { problem = b; built = false; shot = None }) (response_of r) (state_at m f u closed clean)
-begins-told m f b closed clean q r u none whole a e =
+begins-responds m f b closed clean q r u none whole a e =
     subst (λ o. BuildsUnless o (record (state_at m f u closed clean) { problem = b; built = false; shot = None }) (response_of r) (state_at m f u closed clean)) (sym none)
     (begun m f b closed clean q r u whole a e)
 

@@ -101,7 +101,7 @@ builds-sound mode.Check old new response is h none b = same-sound new response _
   reads = h.reads;
   shot = subst (λ m. HasShot m true old.problem old.shot) (sym is) tt;
 })
-builds-sound mode.Batch old new response is h none b = same-sound new response _ b.told (record {
+builds-sound mode.Batch old new response is h none b = same-sound new response _ b.responds (record {
   problem = h.problem;
   accepted = λ x. none;
   claims = after_build old.block old.built h.claims;
@@ -115,7 +115,7 @@ unless-sound (Some r) old new response is h b = same-sound new response _ b (res
 
 finds-sound : (o : Option Shot) (old new : State) (q : Question) (response : Response) → IsSoundState old → FindsBy o old q response new → IsSoundState new
 finds-sound None old new q response h e = absurd e
-finds-sound (Some s) old new q response h e = same-sound new response _ e.told (respond-sound old (Found e.finding) h)
+finds-sound (Some s) old new q response h e = same-sound new response _ e.responds (respond-sound old (Found e.finding) h)
 
 obeys-sound : (old new : State) (a : Asked) (response : Response) → IsSoundState old → StandsBy old.built a → IsKnown a → Obeys old a response new → IsSoundState new
 obeys-sound old new asking.Build response h t k e = unless-sound (finish_refusal old.problem) old new response refl h e
@@ -154,7 +154,7 @@ builds-some mode.Check old is h none =
 builds-some mode.Batch old is h none =
     let e = each-built old.problem (record { sound = h.problem; accepted = none }) in
     let new : State = (respond Built (record old { built = true; shot = Some e.0 })).1 in
-    let b : BuildsBy mode.Batch old Built new = record { shot = e.0; built = e.1; told = refl } in
+    let b : BuildsBy mode.Batch old Built new = record { shot = e.0; built = e.1; responds = refl } in
     (Built, new, b, builds-sound mode.Batch old new Built is h none b)
 
 unless-some : (o : Option refusals.ProblemRefusal) (old : State) → finish_refusal old.problem ≡ o → IsSoundState old → Some_response (BuildsUnless o old)
@@ -191,7 +191,7 @@ finds-some (Some s) old q h built has =
     let b = built-problem old h built in
     let e = each-found old.problem s.table q b has.right in
     let new : State = (respond (Found e.0) old).1 in
-    let f : FindsBy (Some s) old q (Found e.0) new = record { finding = e.0; is = e.1; holds = findings-true old.problem s.table q e.0 b has.right e.1; told = refl } in
+    let f : FindsBy (Some s) old q (Found e.0) new = record { finding = e.0; is = e.1; holds = findings-true old.problem s.table q e.0 b has.right e.1; responds = refl } in
     (Found e.0, new, f, finds-sound (Some s) old new q (Found e.0) h f)
 
 -- with the soundness of the state after it
@@ -231,7 +231,7 @@ judges-some old f given h built raw =
       record {
         verdict = v.0;
         judged = v.1;
-        told = refl;
+        responds = refl;
         justified = verdict-justified old.problem f given v.0 h.problem (h.accepted built) raw v.1;
       },
       record { problem = h.problem; accepted = h.accepted; claims = tt; reads = h.reads; shot = h.shot },
@@ -270,7 +270,7 @@ line-some false old line h = in-some old.block old line h
 pub step-some : (old : State) (line : List ℕ) → IsSoundState old → (shown : Option Pair) × (text : List ℕ) × (new : State) × Step old line shown text new × IsSoundState new
 step-some old line h =
     let a = line-some old.closed old line h in
-    (pair_shown a.1.shot a.0, text_of a.1 a.0, a.1, record { response = a.0; answers = a.2; shows = refl; told = refl }, a.3)
+    (pair_shown a.1.shot a.0, text_of a.1 a.0, a.1, record { response = a.0; answers = a.2; shows = refl; responds = refl }, a.3)
 
 end-some : (closed : Bool) (old : State) → IsSoundState old → Some_response (AnswersEnd closed old)
 end-some true old h = (Nothing, old, (refl, refl), h)
@@ -280,13 +280,13 @@ end-some false old h = ends-some old.block old false refl h
 pub finish-some : (old : State) → IsSoundState old → (text : List ℕ) × (new : State) × Finish old text new
 finish-some old h =
     let a = end-some old.closed old h in
-    (text_of a.1 a.0, a.1, record { response = a.0; answers = a.2; told = refl })
+    (text_of a.1 a.0, a.1, record { response = a.0; answers = a.2; responds = refl })
 
 -- ---- each step leads to a sound state
 
 judges-sound : (old new : State) (f : Poly) (given : Result block.Evidence block.BlockFault) (response : Response) → IsSoundState old → JudgesClaim old f given response new → IsSoundState new
 judges-sound old new f given response h j =
-    subst (λ (s : State). IsSoundState s) (sym (ap (λ r. r.1) j.told)) (record { problem = h.problem; accepted = h.accepted; claims = tt; reads = h.reads; shot = h.shot })
+    subst (λ (s : State). IsSoundState s) (sym (ap (λ r. r.1) j.responds)) (record { problem = h.problem; accepted = h.accepted; claims = tt; reads = h.reads; shot = h.shot })
 
 ends-sound : (o : Open) (old new : State) (has_end : Bool) (response : Response) → IsSoundState old → EndsBlock o old has_end response new → IsSoundState new
 ends-sound NoBlock old new has_end response h e = subst (λ (s : State). IsSoundState s) (sym e.1) h

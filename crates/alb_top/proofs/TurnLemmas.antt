@@ -56,7 +56,7 @@ step-command s new line response going out is = record {
   response = response;
   answers = subst (λ c. AnswersLine c s line response new) (sym going) (subst (λ o. AnswersIn o s line response new) (sym out) is);
   shows = refl;
-  told = refl;
+  responds = refl;
 }
 
 -- a line that is not too long is obeyed
@@ -91,7 +91,7 @@ inside-claimed s f before (line ∷ lines) going h =
         response = Nothing;
         answers = subst (λ c. AnswersLine c old line Nothing mid) (sym going) (subst (λ b. OfBlock b old line Nothing mid) (sym h.0) (refl, refl));
         shows = refl;
-        told = refl;
+        responds = refl;
       },
       rest,
     )
@@ -113,7 +113,7 @@ inside-skipped s e (line ∷ lines) going h =
         response = Nothing;
         answers = subst (λ c. AnswersLine c old line Nothing old) (sym going) (subst (λ b. OfBlock b old line Nothing old) (sym h.0) (refl, refl));
         shows = refl;
-        told = refl;
+        responds = refl;
       },
       inside-skipped s e lines going h.1,
     )
@@ -123,7 +123,7 @@ inside-skipped s e (line ∷ lines) going h =
 -- the line that ends a block
 end-step : (mid new : State) (line : List ℕ) (response : Response) → mid.closed ≡ false → AnswersIn mid.block mid line response new
     → Step mid line (pair_shown new.shot response) (text_of new response) new
-end-step mid new line response going is = record { response = response; answers = subst (λ c. AnswersLine c mid line response new) (sym going) is; shows = refl; told = refl }
+end-step mid new line response going is = record { response = response; answers = subst (λ c. AnswersLine c mid line response new) (sym going) is; shows = refl; responds = refl }
 
 -- a block with its line `end` was read
 pub block-answered : (old new : Reader) (s mid next : State) (now now' : Option (List ℕ)) (lines : List (List ℕ)) (response : Response) → ReadsBlock true lines old new now now'
@@ -245,21 +245,21 @@ block-taken old new s mid now now' lines false ended response next taken r run g
 
 skipped-ends : (s : State) (e : CommandError) (response : Rust.Response) (next : Script) (has_end : Bool) → s.block ≡ NoBlock → (response_of response, state next) ≡ respond (Refused (OfCommand e)) s
     → EndsBlock (Skipped e) (skipping e s) has_end (response_of response) (state next)
-skipped-ends s e response next has_end out told = told ∙ ap (λ (o : Open). respond (Refused (OfCommand e)) (record s { block = o })) out
+skipped-ends s e response next has_end out responds = responds ∙ ap (λ (o : Open). respond (Refused (OfCommand e)) (record s { block = o })) out
 
 -- the block of a refused claim was read, and the claim is refused
 pub skipped-taken : (old new : Reader) (s : State) (e : CommandError) (now now' : Option (List ℕ)) (lines : List (List ℕ)) (has_end : Bool) (response : Rust.Response) (next : Script) (ended : Bool) (taken : Taken)
     → s.closed ≡ false → s.block ≡ NoBlock → ReadsBlock has_end lines old new now now' → (response_of response, state next) ≡ respond (Refused (OfCommand e)) s → ended ≡ new.ended
     → taken ≡ (if ended then took.Last response next else took.Response response next) → TakesTurn taken old new (skipping e s) now now'
-skipped-taken old new s e now now' lines has_end response next ended taken going out r told over is =
+skipped-taken old new s e now now' lines has_end response next ended taken going out r responds over is =
     block-taken old new (skipping e s) (skipping e s) now now' lines has_end ended response next taken r (inside-skipped s e lines going r.no_end) going
-    (λ line k h. subst (λ b. OfBlock b (skipping e s) line (response_of response) (state next)) (sym k) (skipped-ends s e response next true out told)) (λ h. skipped-ends s e response next false out told) over is
+    (λ line k h. subst (λ b. OfBlock b (skipping e s) line (response_of response) (state next)) (sym k) (skipped-ends s e response next true out responds)) (λ h. skipped-ends s e response next false out responds) over is
 
 -- ---- what a line asks for
 
 pub step-obeyed : (s new : State) (line : List ℕ) (response : Response) (a : Asked) → s.closed ≡ false → s.block ≡ NoBlock → length line ≤ 65536 → asked_of s line ≡ Ok a
     → Obeys s a response new → Step s line (pair_shown new.shot response) (text_of new response) new
-step-obeyed s new line response a going out short is told = step-command s new line response going out (commands-short s new line response (Ok a) short is told)
+step-obeyed s new line response a going out short is responds = step-command s new line response going out (commands-short s new line response (Ok a) short is responds)
 
 pub step-claimed : (s : State) (line : List ℕ) (f : Poly) → s.closed ≡ false → s.block ≡ NoBlock → length line ≤ 65536 → asked_of s line ≡ Ok (Claim f) → Step s line None [] (claimed f s)
 step-claimed s line f going out short is = step-command s (claimed f s) line Nothing going out (commands-short s (claimed f s) line Nothing (Ok (Claim f)) short is refl)
@@ -272,8 +272,8 @@ step-skipped s line e going out short is claim =
 
 pub step-refused : (s new : State) (line : List ℕ) (response : Response) (e : CommandError) → s.closed ≡ false → s.block ≡ NoBlock → length line ≤ 65536 → asked_of s line ≡ Err e
     → is_claim (command_word s.form line) ≡ false → (response, new) ≡ respond (Refused (OfCommand e)) s → Step s line (pair_shown new.shot response) (text_of new response) new
-step-refused s new line response e going out short is other told =
-    step-command s new line response going out (commands-short s new line response (Err e) short is (told ∙ sym (ap (λ b. refuse b s e) other)))
+step-refused s new line response e going out short is other responds =
+    step-command s new line response going out (commands-short s new line response (Err e) short is (responds ∙ sym (ap (λ b. refuse b s e) other)))
 
 -- a line before a turn
 pub turn-after : (taken : Taken) (first old new : Reader) (s mid : State) (was now now' : Option (List ℕ)) (line : List ℕ) → ReadsLine first old was now line → Step s line None [] mid

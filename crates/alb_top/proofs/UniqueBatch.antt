@@ -169,12 +169,12 @@ module _ (old : State) (o : Option Shot) (sound : IsSoundState old) where
   builds-same mode.Batch none early w r q m n h k =
       let same = built-unique old.problem h.shot k.shot (record { sound = sound.problem; accepted = none }) h.built k.built in
       let here : State = (respond Built (record old { built = true; shot = Some h.shot })).1 in
-      let is : m ≡ here = ap (λ x. x.1) h.told in (
-        ap (λ x. x.0) h.told ∙ sym (ap (λ x. x.0) k.told),
-        subst IsPlain (sym (ap (λ x. x.0) h.told)) tt,
+      let is : m ≡ here = ap (λ x. x.1) h.responds in (
+        ap (λ x. x.0) h.responds ∙ sym (ap (λ x. x.0) k.responds),
+        subst IsPlain (sym (ap (λ x. x.0) h.responds)) tt,
         record {
           other = Some k.shot;
-          is = ap (λ x. x.1) k.told ∙ ap (λ s. with_shot s (Some k.shot)) (sym is);
+          is = ap (λ x. x.1) k.responds ∙ ap (λ s. with_shot s (Some k.shot)) (sym is);
           shots = subst (λ (s : State). HasTwin s (Some k.shot)) (sym is) (h.built, k.built, same);
         },
       )
@@ -218,16 +218,16 @@ module _ (old : State) (o : Option Shot) (sound : IsSoundState old) where
 
     finds-alike : (q : Question) → ((p : Poly) → q ≡ questions.Prove p → asked_of old line ≡ Ok (asking.Prove p)) → AreAlike line (λ r n. Finds old s q r n) (λ r n. Finds old' u q r n)
     finds-alike q asks r x m n h k =
-        let next : m ≡ (respond (Found h.finding) old).1 = ap (λ y. y.1) h.told in
-        let mine : text_of m r ≡ finding_text letters s.table h.finding = ap (λ y. text_of y.1 y.0) h.told ∙ ap (λ z. found_text letters z h.finding) here in
-        let your : text_of n x ≡ finding_text letters u.table k.finding = ap (λ y. text_of y.1 y.0) k.told ∙ ap (λ z. found_text letters z k.finding) there in
-        let a : pair_shown m.shot r ≡ Some (pair_of s) = ap (λ y. pair_shown y.1.shot y.0) h.told ∙ ap (option_map pair_of) here in
-        let b : pair_shown n.shot x ≡ Some (pair_of u) = ap (λ y. pair_shown y.1.shot y.0) k.told ∙ ap (option_map pair_of) there in (
+        let next : m ≡ (respond (Found h.finding) old).1 = ap (λ y. y.1) h.responds in
+        let mine : text_of m r ≡ finding_text letters s.table h.finding = ap (λ y. text_of y.1 y.0) h.responds ∙ ap (λ z. found_text letters z h.finding) here in
+        let your : text_of n x ≡ finding_text letters u.table k.finding = ap (λ y. text_of y.1 y.0) k.responds ∙ ap (λ z. found_text letters z k.finding) there in
+        let a : pair_shown m.shot r ≡ Some (pair_of s) = ap (λ y. pair_shown y.1.shot y.0) h.responds ∙ ap (option_map pair_of) here in
+        let b : pair_shown n.shot x ≡ Some (pair_of u) = ap (λ y. pair_shown y.1.shot y.0) k.responds ∙ ap (option_map pair_of) there in (
           text-alike (text_of m r) (text_of n x) _ _ mine your (found-alike q h.finding k.finding asks h.is k.is),
           a ∙ ap (λ (y : Pair). Some y) same ∙ sym b,
           record {
             other = o;
-            is = ap (λ y. y.1) k.told ∙ ap (λ z. with_shot z o) (sym next);
+            is = ap (λ y. y.1) k.responds ∙ ap (λ z. with_shot z o) (sym next);
             shots = subst (λ (z : State). HasTwin z o) (sym next) w;
           },
         )
@@ -283,7 +283,7 @@ module _ (old : State) (o : Option Shot) (sound : IsSoundState old) where
   judges-same : (f : Poly) (given : Result block.Evidence block.BlockFault) → HasTwin old o → AreSame (λ r n. JudgesClaim old f given r n) (λ r n. JudgesClaim old' f given r n)
   judges-same f given w r q m n h k =
       let e = verdict-only old.problem.field old.problem.counts (forms_of old.problem) f given h.verdict k.verdict h.judged k.judged in
-      given-same (respond (Judged h.verdict) (shut old)) o tt w r q m n h.told (k.told ∙ ap (λ v. respond (Judged v) (shut old')) (sym e))
+      given-same (respond (Judged h.verdict) (shut old)) o tt w r q m n h.responds (k.responds ∙ ap (λ v. respond (Judged v) (shut old')) (sym e))
 
   ends-same : (x : Open) (has_end : Bool) → HasTwin old o → AreSame (λ r n. EndsBlock x old has_end r n) (λ r n. EndsBlock x old' has_end r n)
   ends-same NoBlock has_end w = nothing-same old o w
@@ -318,7 +318,7 @@ step-alike : (old m n : State) (o : Option Shot) (line t u : List ℕ) (a b : Op
     → ((t ≡ u) ⊎ HaveOwnEvidence line t u) × (a ≡ b) × Twin m n
 step-alike old m n o line t u a b sound w x y =
     let e = line-alike old o sound old.closed line w x.response y.response m n x.answers y.answers in
-    (text-alike t u _ _ x.told y.told e.0, x.shows ∙ e.1 ∙ sym y.shows, e.2)
+    (text-alike t u _ _ x.responds y.responds e.0, x.shows ∙ e.1 ∙ sym y.shows, e.2)
 
 record AreRuns (lines : List (List ℕ)) (ps qs : List (Option Pair)) (t u : List ℕ) (m n : State) : Type 0 where
   texts : (x y : List ℕ) → x ≡ y → AnswerAlike lines (t ++ x) (u ++ y)
@@ -357,7 +357,7 @@ finish-same : (old m n : State) (o : Option Shot) (t u : List ℕ) → IsSoundSt
 finish-same old m n o t u sound w a b =
     let e = end-same old o sound old.closed w a.response b.response m n a.answers b.answers in
     let x = same-alike m n a.response b.response e.0 e.1 e.2 in
-    (a.told ∙ x.text ∙ sym b.told, e.2)
+    (a.responds ∙ x.text ∙ sym b.responds, e.2)
 
 twin-shot : (m n : State) → Twin m n → n ≡ with_shot m n.shot
 twin-shot m n t = t.is ∙ ap (with_shot m) (sym (ap (λ (s : State). s.shot) t.is))

@@ -102,8 +102,8 @@ commands-only false old line c = line_obeyed-only old line (asked_of old line) c
 judges-only : (old : State) (f : Poly) (given : Result block.Evidence block.BlockFault) → IsCheck old → IsOnly (λ r n. JudgesClaim old f given r n)
 judges-only old f given c r q m n h k =
     let e = verdict-only old.problem.field old.problem.counts (forms_of old.problem) f given h.verdict k.verdict h.judged k.judged in
-    given-only (respond (Judged h.verdict) (shut old)) (record { mode = c.mode; shot = c.shot }) r q m n h.told
-    (k.told ∙ ap (λ v. respond (Judged v) (shut old)) (sym e))
+    given-only (respond (Judged h.verdict) (shut old)) (record { mode = c.mode; shot = c.shot }) r q m n h.responds
+    (k.responds ∙ ap (λ v. respond (Judged v) (shut old)) (sym e))
 
 ends-only : (o : Open) (old : State) (has_end : Bool) → IsCheck old → IsOnly (λ r n. EndsBlock o old has_end r n)
 ends-only NoBlock old has_end c = nothing-only old c
@@ -141,7 +141,7 @@ same-text m n r q e s = ap₂ (λ (x : State) (y : Response). text_of x y) s e
 step-only : (old m n : State) (line t u : List ℕ) (a b : Option Pair) → IsCheck old → Step old line a t m → Step old line b u n → (t ≡ u) × (m ≡ n) × IsCheck m
 step-only old m n line t u a b c x y =
     let e = line-only old.closed old line c x.response y.response m n x.answers y.answers in
-    (x.told ∙ same-text m n x.response y.response e.0 e.1 ∙ sym y.told, e.1, e.2)
+    (x.responds ∙ same-text m n x.response y.response e.0 e.1 ∙ sym y.responds, e.1, e.2)
 
 pub run-only : (old m n : State) (lines : List (List ℕ)) (ps qs : List (Option Pair)) (t u : List ℕ) → IsCheck old → Run Step old lines ps t m → Run Step old lines qs u n → (t ≡ u) × (m ≡ n) × IsCheck m
 run-only old m n [] ps qs t u c a b = (a.1 ∙ sym b.1, a.2 ∙ sym b.2, subst (λ (s : State). IsCheck s) (sym a.2) c)
@@ -153,7 +153,7 @@ run-only old m n (line ∷ lines) ps qs t u c a b =
 finish-only : (old m n : State) (t u : List ℕ) → IsCheck old → Finish old t m → Finish old u n → (t ≡ u) × (m ≡ n)
 finish-only old m n t u c a b =
     let e = end-only old.closed old c a.response b.response m n a.answers b.answers in
-    (a.told ∙ same-text m n a.response b.response e.0 e.1 ∙ sym b.told, e.1)
+    (a.responds ∙ same-text m n a.response b.response e.0 e.1 ∙ sym b.responds, e.1)
 
 pub check-unique : CheckIsUnique
 check-unique lines ps qs t u last end a b =

@@ -1,6 +1,6 @@
 -- Scripts: their states, their responses, and what each line is answered.
 use Rattle.std.specs.Prelude.{ℕ, Bool, true, false, List, [], Option, None, Some, option_map, decimal, codes, ◌≡◌, ◌+◌, ◌&&◌, ◌∷◌, ◌++◌, length, sum, Result, Ok, Err, nat_lt, if◌then◌else◌}
-use Rattle.alb_script.specs.Refusals.{line_with, command_text, stated_text, refusal_text}
+use Rattle.alb_script.specs.Refusals.{line_with, command_text, stated_text, too_long_text}
 use Rattle.alb_script.specs.declared.error.CommandError.{CommandError}
 use Rattle.alb_judge.specs.Verdict.{Verdict, is_accepted, verdict_text, IsVerdict, IsJustified}
 use Rattle.alb_question.specs.Question.{Shot, Pair, pair_of, built_text, Finding, finding_text, rules_of, IsBuilt, Question, Polynomial, Prove, Dimensions, Products, IsFinding, IsTrueOf}
@@ -10,7 +10,6 @@ use Rattle.alb_script.specs.Asked.{Asked, Field, Generators, Identity, Build, Cl
 use Rattle.alb_script.specs.declared.word.Word.{Word}
 use Rattle.alb_evidence.specs.Block.{is_end, Evidence, BlockFault, evidence_of}
 use Rattle.alb_problem.specs.Builder as refusals
-use Rattle.alb_script.specs.declared.refusal.Refusal.TheVariants as script
 use Rattle.alb_script.specs.Asked as asking
 use Rattle.alb_script.specs.declared.form.Form as scripts
 use Rattle.alb_script.specs.declared.word.Word.TheVariants as word
@@ -45,7 +44,7 @@ is_clean other = true
 -- ---- texts
 
 abbrev pub refusal_line : Refusal → List ℕ
-refusal_line TooLong = refusal_text script.TooLong
+refusal_line TooLong = too_long_text
 refusal_line (OfCommand e) = command_text e
 refusal_line (OfProblem r) = stated_text r
 
@@ -96,17 +95,13 @@ pub record State : Type 0 where
   pub closed : Bool
   pub clean : Bool
 
+-- the problem before its first statement
+abbrev pub no_problem : Builder
+no_problem = record { field = 251; letters = []; counts = []; identities = [] }
+
+-- a script before its first line
 abbrev pub start : modes.Mode → scripts.Form → State
-start m f = record {
-  mode = m;
-  form = f;
-  problem = record { field = 251; letters = []; counts = []; identities = [] };
-  built = false;
-  shot = None;
-  block = NoBlock;
-  closed = false;
-  clean = true;
-}
+start m f = record { mode = m; form = f; problem = no_problem; built = false; shot = None; block = NoBlock; closed = false; clean = true }
 
 -- a script stays clean as long as its responses are
 abbrev pub respond : Response → State → Response × State
@@ -141,7 +136,7 @@ obey s statement = with_problem s (stated s.problem statement)
 pub record Builds (old : State) (response : Response) (new : State) : Type 0 where
   pub shot : Shot
   pub built : IsBuilt (rules_of old.problem) shot
-  pub told : (response, new) ≡ respond Built (record old { built = true; shot = Some shot })
+  pub responds : (response, new) ≡ respond Built (record old { built = true; shot = Some shot })
 
 -- `build` of an accepted problem, by the mode: a check needs no table
 abbrev pub BuildsBy : modes.Mode → State → Response → State → Type 0
@@ -165,7 +160,7 @@ pub record Finds (old : State) (shot : Shot) (q : Question) (response : Response
   pub finding : Finding
   pub is : IsFinding (rules_of old.problem) shot.table q finding
   pub holds : IsTrueOf shot.table.p old.problem.identities q finding
-  pub told : (response, new) ≡ respond (Found finding) old
+  pub responds : (response, new) ≡ respond (Found finding) old
 
 -- a question to the shot of the script, if it has one
 abbrev pub FindsBy : Option Shot → State → Question → Response → State → Type 0
@@ -225,7 +220,7 @@ pub record JudgesClaim (old : State) (claim : Poly) (given : Result Evidence Blo
   pub verdict : Verdict
   pub judged : IsVerdict old.problem.field old.problem.counts (forms_of old.problem) claim given verdict
   pub justified : IsJustified old.problem.field old.problem.identities claim verdict
-  pub told : (response, new) ≡ respond (Judged verdict) (shut old)
+  pub responds : (response, new) ≡ respond (Judged verdict) (shut old)
 
 -- the end of a block answers its claim: its line `end`, or the end of the input
 abbrev pub EndsBlock : Open → State → Bool → Response → State → Type 0
@@ -264,7 +259,7 @@ pub record Step (old : State) (line : List ℕ) (shown : Option Pair) (text : Li
   pub response : Response
   pub answers : AnswersLine old.closed old line response new
   pub shows : shown ≡ pair_shown new.shot response
-  pub told : text ≡ text_of new response
+  pub responds : text ≡ text_of new response
 
 -- the end of the lines; after the end of the script it asks for no answer
 abbrev pub AnswersEnd : Bool → State → Response → State → Type 0
@@ -274,4 +269,4 @@ AnswersEnd false old response new = EndsBlock old.block old false response new
 pub record Finish (old : State) (text : List ℕ) (new : State) : Type 0 where
   pub response : Response
   pub answers : AnswersEnd old.closed old response new
-  pub told : text ≡ text_of new response
+  pub responds : text ≡ text_of new response

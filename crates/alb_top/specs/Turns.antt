@@ -58,7 +58,7 @@ pub record Gets (old new : Reader) (before now : Option (List ℕ)) : Type 0 whe
   pub lines : List (List ℕ)
   pub reads : ReadsLines lines old new before now
 
--- there was no answer to a line, for want of one, or of memory
+-- there was no answer to a line: no line came, or memory ran out
 abbrev pub Stops : LineStep → Reader → Reader → State → Option (List ℕ) → Option (List ℕ) → Type 0
 Stops answer old new script before now = (mid : State) × Pauses answer old new script mid before now
 

@@ -38,7 +38,7 @@ use Rattle.alb_top.specs.declared.script.Stage.TheVariants as stage
 
 -- ---- responses
 
--- a refusal by the problem; want of memory is none
+-- a refusal by the problem; running out of memory is none
 abbrev pub by_problem : Option refusals.ProblemRefusal → responses.Refusal
 by_problem (Some r) = responses.OfProblem r
 by_problem None = responses.OfCommand command_error.NoMemory
@@ -58,7 +58,7 @@ response_of (response.Found f) = responses.Found (finding_of f)
 response_of (response.Refused r) = responses.Refused (refusal_of r)
 response_of (response.Judged v) = responses.Judged (judgement v)
 
--- a refusal is not want of memory, and its term is over the letters a to z
+-- a refusal does not say that memory ran out, and its term is over the letters a to z
 pub record CanBeWritten (r : Refusal) : Type 0 where
   pub memory : is_memory r ≡ false
   pub known : IsOverAlphabet r

@@ -53,7 +53,7 @@ fn read_about(
     requires { length line.now ≤ 65536 }
     ensures exact { Gives view (or_error result) (asked form true (sum problem.now.rules.target) problem.now.rules.field problem.now.letters line.now) }
     ensures read { IfOk result (λ c. IsCommandOver problem.now.rules.field (length problem.now.letters) c) }
-    ensures told { IfErr result (λ bad. IsPlain bad.error) }
+    ensures plain { IfErr result (λ bad. IsPlain bad.error) }
     ensures word { IfErr result (λ bad. bad.word ≡ command_word form line.now) }
 {
     let place = ScriptPlace {
@@ -136,7 +136,7 @@ impl Script {
         requires { length line.now ≤ 65536 }
         ensures exact { Gives view (or_error result) (asked (state self.now).form (state self.now).built (total_of (state self.now)) (state self.now).problem.field (letters_of (state self.now)) line.now) }
         ensures read { IfOk result (λ c. IsCommandOver (state self.now).problem.field (length (letters_of (state self.now))) c) }
-        ensures told { IfErr result (λ bad. IsPlain bad.error) }
+        ensures plain { IfErr result (λ bad. IsPlain bad.error) }
         ensures word { IfErr result (λ bad. bad.word ≡ command_word (state self.now).form line.now) }
     {
         match &self.stage {
@@ -170,7 +170,7 @@ impl Script {
     pub fn refuse(self, refusal: Refusal) -> (Response, Script)
         requires written { CanBeWritten refusal }
         requires script { IsScript self }
-        ensures told { (response_of result.0, state result.1) ≡ respond (Refused (refusal_of refusal)) (state self) }
+        ensures responds { (response_of result.0, state result.1) ≡ respond (Refused (refusal_of refusal)) (state self) }
         ensures writable { IsWritable (state result.1) result.0 }
         ensures script { IsScript result.1 }
     {
@@ -183,7 +183,7 @@ impl Script {
     pub fn judged(self, verdict: Verdict) -> (Response, Script)
         requires script { IsScript self }
         ensures response { result.0 ≡ Response.Judged verdict }
-        ensures told { (Judged (judgement verdict), state result.1) ≡ respond (Judged (judgement verdict)) (state self) }
+        ensures responds { (Judged (judgement verdict), state result.1) ≡ respond (Judged (judgement verdict)) (state self) }
         ensures script { IsScript result.1 }
     {
         let is_accepted = verdict.is_accepted();
@@ -198,7 +198,7 @@ impl Script {
         requires script { IsScript self }
         requires stating { (state self).built ≡ false }
         requires read { IsCommandOver (state self).problem.field (length (letters_of (state self))) command }
-        ensures told { IfOk result (λ r. (response_of r.0, state r.1) ≡ obey (state self) (view command)) }
+        ensures responds { IfOk result (λ r. (response_of r.0, state r.1) ≡ obey (state self) (view command)) }
         ensures written { IfOk result (λ r. IsWritten r.0) }
         ensures script { IfOk result (λ r. IsScript r.1) }
     {
@@ -231,7 +231,7 @@ impl Script {
         requires read { IsCommandOver (state self).problem.field (length (letters_of (state self))) command }
         requires script { IsScript self }
         requires sound { IsSoundProblem (state self).problem }
-        ensures told { IfOk result (λ r. Obeys (state self) (view command) (response_of r.0) (state r.1)) }
+        ensures responds { IfOk result (λ r. Obeys (state self) (view command) (response_of r.0) (state r.1)) }
         ensures writable { IfOk result (λ r. IsWritable (state r.1) r.0) }
         ensures script { IfOk result (λ r. IsScript r.1) }
     {
@@ -253,7 +253,7 @@ impl Script {
         requires read { IsCommandOver (state self).problem.field (length (letters_of (state self))) command }
         requires script { IsScript self }
         requires sound { IsSoundProblem (state self).problem }
-        ensures told { IfOk result (λ r. Obeys (state self) (view command) (response_of r.0) (state r.1)) }
+        ensures responds { IfOk result (λ r. Obeys (state self) (view command) (response_of r.0) (state r.1)) }
         ensures writable { IfOk result (λ r. IsWritable (state r.1) r.0) }
         ensures script { IfOk result (λ r. IsScript r.1) }
     {
@@ -268,7 +268,7 @@ impl Script {
     // The script after its end.
     fn close(self) -> Script
         requires script { IsScript self }
-        ensures told { (Nothing, state result) ≡ obey (state self) Quit }
+        ensures responds { (Nothing, state result) ≡ obey (state self) Quit }
         ensures script { IsScript result }
     {
         let mut next = self;
@@ -280,7 +280,7 @@ impl Script {
     fn build(self, alloc: Global) -> Result<(Response, Script), NoMemory>
         requires script { IsScript self }
         requires stating { (state self).built ≡ false }
-        ensures told { IfOk result (λ r. Obeys (state self) Build (response_of r.0) (state r.1)) }
+        ensures responds { IfOk result (λ r. Obeys (state self) Build (response_of r.0) (state r.1)) }
         ensures writable { IfOk result (λ r. IsWritable (state r.1) r.0) }
         ensures script { IfOk result (λ r. IsScript r.1) }
     {

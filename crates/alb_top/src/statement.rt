@@ -14,7 +14,7 @@ use alb_problem::{ProblemBuilder, ProblemError};
 use alb_script::{Command, Refusal};
 
 fn name_field(builder: &mut ProblemBuilder, p: u64) -> Response
-    ensures told { (response_of result, builder.new) ≡ stated builder.old (asking.Field p) }
+    ensures responds { (response_of result, builder.new) ≡ stated builder.old (asking.Field p) }
     ensures written { IsWritten result }
 {
     match builder.set_field(p) {
@@ -24,7 +24,7 @@ fn name_field(builder: &mut ProblemBuilder, p: u64) -> Response
 }
 
 fn name_generators(builder: &mut ProblemBuilder, tokens: &[Token], end: u32) -> Response
-    ensures told { (response_of result, builder.new) ≡ stated builder.old (asking.Generators tokens.now end) }
+    ensures responds { (response_of result, builder.new) ≡ stated builder.old (asking.Generators tokens.now end) }
     ensures written { IsWritten result }
 {
     match builder.set_generators(tokens, end) {
@@ -45,7 +45,7 @@ fn refusal(error: ProblemError) -> Result<Response, NoMemory>
 
 fn add_identity(builder: &mut ProblemBuilder, f: Poly) -> Result<Response, NoMemory>
     requires { IsPolyOver builder.old.field 26 f }
-    ensures told { IfOk result (λ r. (response_of r, builder.new) ≡ stated builder.old (asking.Identity f)) }
+    ensures responds { IfOk result (λ r. (response_of r, builder.new) ≡ stated builder.old (asking.Identity f)) }
     ensures written { IfOk result (λ r. IsWritten r) }
     ensures unchanged { OnErr result (builder.new ≡ builder.old) }
 {
@@ -59,7 +59,7 @@ fn add_identity(builder: &mut ProblemBuilder, f: Poly) -> Result<Response, NoMem
 pub fn state_problem(builder: &mut ProblemBuilder, command: Command) -> Result<Response, NoMemory>
     requires statement { IsStatement (view command) }
     requires read { IsCommandOver builder.old.field 0 command }
-    ensures told { IfOk result (λ r. (response_of r, builder.new) ≡ stated builder.old (view command)) }
+    ensures responds { IfOk result (λ r. (response_of r, builder.new) ≡ stated builder.old (view command)) }
     ensures written { IfOk result (λ r. IsWritten r) }
     ensures unchanged { OnErr result (builder.new ≡ builder.old) }
 {

@@ -149,7 +149,7 @@ module _ (fs : List Form) (multi : AreMultilinear fs) (high : AreHigh fs) (t u :
 -- ---- ends
 
 module _ (fs : List Form) (multi : AreMultilinear fs) (high : AreHigh fs) where
-  -- behind the end of a building there is no table
+  -- after the end of a building there is no table
   no-later : (t u : Table) → IsTable t → IsTable u → u.p ≡ t.p → u.target ≡ t.target → t.degree < u.degree → IsRightTable fs t → IsRightTable fs u → (e : End) → IsEnd fs t e → ⊥
   no-later t u tab tab' field goal less right right' Complete h = absurd (omega (arith, h, less, tab'.within, ap sum goal))
   no-later t u tab tab' field goal less right right' (TooWide w n) h =

@@ -9,7 +9,7 @@ use std::io::{self, Read};
 use std::marker::Send;
 use std::test::Fail;
 
-/// Bytes, the limit of the reader, the lines with `|` behind each, and the last step.
+/// Bytes, the limit of the reader, the lines with `|` after each, and the last step.
 const INPUTS: [(&[u8], u64, &[u8], LineStep); 7] = [
     (b"abc\n", 4, b"abc|", LineStep::InputLimit),
     (b"abc\n", 5, b"abc|", LineStep::End),

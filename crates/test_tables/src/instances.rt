@@ -12,7 +12,7 @@ use fixtures::linear;
 use std::alloc::Global;
 use std::test::Fail;
 
-// The first tuples of three basis elements, at most a hundred, one behind the other.
+// The first tuples of three basis elements, at most a hundred, one after the other.
 fn tuples(alloc: Global, tables: &Tables, f: &Linear, t: &Multi) -> Result<Vec<u32>, Fail>
     requires { f.now.degree ≤ 8 }
 {

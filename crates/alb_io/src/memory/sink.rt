@@ -35,7 +35,7 @@ impl Model for MemSink {
 impl MemSink {
     /// A sink with no name that has taken nothing. Its puts are numbered from 0, and those that are
     /// listed fail. Each of the others appends as many bytes as the lesser of `piece` and the
-    /// length of what is put, or fails for want of memory. No contract tells how much memory there
+    /// length of what is put, or fails when out of memory. No contract tells how much memory there
     /// is, so which puts fail beyond those that are listed is left free, and nothing else: what a
     /// put answers and leaves is determined by whether it fails.
     pub fn new(alloc: Global, piece: usize, failing: Vec<u64>) -> MemSink

@@ -9,13 +9,13 @@ use Rattle.alb_top.proofs.RefusalLemmas.{IsRefusal, refused-unless, identity-kno
 use Rattle.alb_top.proofs.statement.add_identity.Goals as goal
 
 record Refuses (r : Result Rust.Response NoMemory) (old now : Builder) (found : Option ProblemRefusal) (taken : Response) (new : Builder) : Type 0 where
-  told : IfOk r (λ x. (response_of x, now) ≡ unless found taken new old)
+  responds : IfOk r (λ x. (response_of x, now) ≡ unless found taken new old)
   written : IfOk r (λ x. IsWritten x)
   unchanged : OnErr r (now ≡ old)
 
 split : (r : Result Rust.Response NoMemory) (old now : Builder) (found : Option ProblemRefusal) (taken : Response) (new : Builder) → now ≡ old → IfOk r (IsRefusal old found taken new) → Refuses r old now found taken new
-split (Ok x) old now found taken new same h = record { told = subst (λ (b : Builder). (response_of x, b) ≡ unless found taken new old) (sym same) h.told; written = h.written; unchanged = tt }
-split (Err e) old now found taken new same h = record { told = tt; written = tt; unchanged = same }
+split (Ok x) old now found taken new same h = record { responds = subst (λ (b : Builder). (response_of x, b) ≡ unless found taken new old) (sym same) h.responds; written = h.written; unchanged = tt }
+split (Err e) old now found taken new same h = record { responds = tt; written = tt; unchanged = same }
 
 pub returns-in-Err : goal.returns-in-Err
 returns-in-Err c =
@@ -24,4 +24,4 @@ returns-in-Err c =
     let h = refused-unless c.in-Err.error b new (identity_refusal b c.args.f) (Numbered (length b.identities + 1)) (identity-known b c.args.f c.requires.known) c.in-Err.ensures.exact in
     let s = split c.refusal.result b c.add_identity.new.self (identity_refusal b c.args.f) (Numbered (length b.identities + 1)) new c.in-Err.ensures.unchanged
     (subst (λ (r : Result Rust.Response NoMemory). IfOk r (IsRefusal b (identity_refusal b c.args.f) (Numbered (length b.identities + 1)) new)) (sym c.refusal.ensures) h) in
-    record { told = s.told; written = s.written; unchanged = s.unchanged }
+    record { responds = s.responds; written = s.written; unchanged = s.unchanged }

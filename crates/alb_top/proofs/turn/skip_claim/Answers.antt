@@ -10,7 +10,7 @@ use Rattle.alb_top.proofs.turn.skip_claim.Goals as goal
 pub returns-in-Ok-clause-takes : goal.returns-in-Ok-clause-takes
 returns-in-Ok-clause-takes g c =
     let r = c.in-Ok.ensures.reads in
-    skipped-taken _ _ (state c.args.script) _ _ _ r.0 r.1 c.refuse-response.result.0 c.refuse-response.result.1 c.ended.result c.answered.result c.requires.going refl r.2 c.refuse-response.ensures.told c.ended.ensures c.answered.ensures
+    skipped-taken _ _ (state c.args.script) _ _ _ r.0 r.1 c.refuse-response.result.0 c.refuse-response.result.1 c.ended.result c.answered.result c.requires.going refl r.2 c.refuse-response.ensures.responds c.ended.ensures c.answered.ensures
 
 pub returns-in-Err-ReadFault-clause-takes : goal.returns-in-Err-ReadFault-clause-takes
 returns-in-Err-ReadFault-clause-takes g c =

@@ -15,7 +15,7 @@ pub returns-in-Ok-clause-takes : goal.returns-in-Ok-clause-takes
 returns-in-Ok-clause-takes g c first was line r short h =
     let s = state c.args.script in
     answers-line first _ s (state c.in-Ok.next) was _ line (response_of c.in-Ok.response) c.requires.going r
-    (step-obeyed s (state c.in-Ok.next) line (response_of c.in-Ok.response) (view c.in-Command.command) c.requires.going refl short (asked-by _ _ s line c.in-Command.is h) c.in-Ok.ensures.told)
+    (step-obeyed s (state c.in-Ok.next) line (response_of c.in-Ok.response) (view c.in-Command.command) c.requires.going refl short (asked-by _ _ s line c.in-Command.is h) c.in-Ok.ensures.responds)
 
 pub returns-in-Err-clause-takes : goal.returns-in-Err-clause-takes
 returns-in-Err-clause-takes g c first was line r short h = record { lines = line ∷ []; reads = (c.args.reader.now, g.S.Source.left c.args.input.now, r, (refl, refl)) }
@@ -31,7 +31,7 @@ returns-in-Refusal-clause-takes g c first was line r short h =
     let s = state c.args.script in
     let e = asked-by _ _ s line c.in-Refusal.is h in
     answers-line first _ s (state c.refuse-response.result.1) was _ line (response_of c.refuse-response.result.0) c.requires.going r
-    (step-refused s (state c.refuse-response.result.1) line (response_of c.refuse-response.result.0) c.in-Refusal.error c.requires.going refl short e.0 e.1 c.refuse-response.ensures.told)
+    (step-refused s (state c.refuse-response.result.1) line (response_of c.refuse-response.result.0) c.in-Refusal.error c.requires.going refl short e.0 e.1 c.refuse-response.ensures.responds)
 
 pub returns-in-RefusedClaim-clause-takes : goal.returns-in-RefusedClaim-clause-takes
 returns-in-RefusedClaim-clause-takes g c first was line r short h =

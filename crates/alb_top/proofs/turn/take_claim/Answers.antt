@@ -10,7 +10,7 @@ pub returns-in-Verdict-clause-takes : goal.returns-in-Verdict-clause-takes
 returns-in-Verdict-clause-takes g c =
     let q = c.in-Some.problem.now in
     claim-taken _ _ (state c.args.script) q c.args.claim.now _ _ c.read_evidence-given.result c.in-Verdict.verdict c.judged-response.result.1 c.ended.result c.answered.result
-    (claiming-stage c.args.script q c.in-Some.ensures.some c.requires.check c.requires.going) (accepted-stage c.args.script q c.in-Some.ensures.some c.requires.script) c.requires.sound c.read_evidence-given.ensures.reads c.in-Verdict.ensures c.judged-response.ensures.told c.ended.ensures
+    (claiming-stage c.args.script q c.in-Some.ensures.some c.requires.check c.requires.going) (accepted-stage c.args.script q c.in-Some.ensures.some c.requires.script) c.requires.sound c.read_evidence-given.ensures.reads c.in-Verdict.ensures c.judged-response.ensures.responds c.ended.ensures
     (c.answered.ensures ∙ ap (λ (r : Response). if c.ended.result then took.Last r c.judged-response.result.1 else took.Response r c.judged-response.result.1) c.judged-response.ensures.response)
 
 pub returns-in-ReadFault-clause-takes : goal.returns-in-ReadFault-clause-takes

@@ -23,7 +23,7 @@ returns-in-TooLong-clause-takes g c =
     let r = c.in-TooLong.ensures.reads in
     answers-line _ _ (state c.args.script) (state c.refuse-response.result.1) _ _ r.gives.0 (response_of c.refuse-response.result.0) c.requires.going (record { answer = _; reads = r; is_first = r.gives.3; running = r.gives.4 })
     (step-command (state c.args.script) (state c.refuse-response.result.1) r.gives.0 (response_of c.refuse-response.result.0) c.requires.going refl
-    (commands-long (state c.args.script) (state c.refuse-response.result.1) r.gives.0 (response_of c.refuse-response.result.0) r.gives.2 c.refuse-response.ensures.told))
+    (commands-long (state c.args.script) (state c.refuse-response.result.1) r.gives.0 (response_of c.refuse-response.result.0) r.gives.2 c.refuse-response.ensures.responds))
 
 pub returns-in-End-clause-takes : goal.returns-in-End-clause-takes
 returns-in-End-clause-takes g c = record {

@@ -27,7 +27,7 @@ pub returns-in-Err : goal.returns-in-Err
 returns-in-Err c =
     let s = state c.args.self.now in
     let h = subst (λ (r : Result Asks NoMemory). IfOk r (λ a. AsksFor a s c.args.line.now × MayBeAsked a s)) (sym c.refused.ensures) (subst (λ w. IfOk (refused_as (is_claim w) c.in-Err.bad.error) (λ a. AsksFor a s c.args.line.now × MayBeAsked a s)) (sym c.in-Err.ensures.word)
-    (refusal-asks c.in-Err.bad.error s c.args.line.now c.in-Err.ensures.exact c.in-Err.ensures.told)) in
+    (refusal-asks c.in-Err.bad.error s c.args.line.now c.in-Err.ensures.exact c.in-Err.ensures.plain)) in
     record {
       asks = first_parts c.refused.result (λ a. AsksFor a s c.args.line.now) (λ a. MayBeAsked a s) h;
       timely = second_parts c.refused.result (λ a. AsksFor a s c.args.line.now) (λ a. MayBeAsked a s) h;
