@@ -1,6 +1,7 @@
 -- A written type is read as that type.
 use Rattle.std.proofs.Common.{◌≡◌, ℕ, ◌+◌, ◌*◌, ◌^◌, ◌<◌, ◌≤◌, true, false, List, [], ◌∷◌, ◌++◌, length, Some, None, Ok, refl, sym, ap, ◌∙◌, subst, append_assoc, arith, length-append}
 use Rattle.std.specs.Prelude.{◌==◌, if◌then◌else◌, nat_le}
+use Rattle.alb_syntax.specs.Reading.{is_open, is_close}
 use Rattle.std.specs.List.{flat_map}
 use Rattle.std.specs.Fmt.{decimal}
 use Rattle.std.proofs.lemmas.Bool.Decides.{nat_tests}
@@ -14,7 +15,7 @@ use Rattle.alb_print.proofs.Counts.{later_count, counts-cons}
 use Rattle.alb_print.proofs.Numbers.{spelled-number}
 use Rattle.alb_print.proofs.Spelled.{Spelled, spelled-one, spelled-both, spelled-all}
 use Rattle.alb_evidence.specs.Block as value
-use Rattle.alb_evidence.specs.Block.{later_counts, counts_in, counts_of_tokens, onto_counts, opens_bracket, closes_bracket, count_in, type_from, or_bad_line}
+use Rattle.alb_evidence.specs.Block.{later_counts, counts_in, counts_of_tokens, onto_counts, count_in, type_from, or_bad_line}
 use Rattle.alb_check.specs.Raw.{AreCounts}
 use Rattle.alb_evidence.proofs.Written.{IsWord, are_plain, plain-append, decimal-numeral, numeral-word}
 
@@ -36,7 +37,7 @@ type-is c cs =
 
 close-ends : (t : Token) → t.kind ≡ kinds.Close → later_counts (t ∷ []) ≡ Some []
 unfolding later_counts
-close-ends t e = ap (λ k. if closes_bracket k then Some [] else None) e
+close-ends t e = ap (λ k. if is_close (Some k) then Some [] else None) e
 
 low_count : (c : ℕ) → c ≤ 255 → nat_le c 255 ≡ true
 low_count c h = grind (arith, nat_tests)
@@ -50,7 +51,7 @@ later-step a t us c cs ea et h eu = (λ i. onto_counts (value.later_count (ea i)
 
 counts-step : (a t : Token) (us : List Token) (c : ℕ) (cs : List ℕ) → a.kind ≡ kinds.Open → t.kind ≡ kinds.Number c → c ≤ 255 → later_counts us ≡ Some cs → counts_in (a ∷ t ∷ us) ≡ Some (c ∷ cs)
 unfolding counts_in
-counts-step a t us c cs ea et h eu = (λ i. if opens_bracket (ea i) then onto_counts (count_in (et i)) (eu i) else None) ∙ ap (λ o. onto_counts o (Some cs)) (count-is c h)
+counts-step a t us c cs ea et h eu = (λ i. if is_open (Some (ea i)) then onto_counts (count_in (et i)) (eu i) else None) ∙ ap (λ o. onto_counts o (Some cs)) (count-is c h)
 
 -- a count, and counts after it
 abbrev Counts : ℕ → List ℕ → List Token → Type 0

@@ -9,7 +9,7 @@ use Rattle.alb_mono.specs.declared.side.Side.TheVariants.{Left, Right}
 use Rattle.alb_lex.specs.declared.token.Token.{Token}
 use Rattle.alb_lex.specs.declared.token.TokenKind.{TokenKind}
 use Rattle.alb_lex.specs.declared.error.LexError.{LexError}
-use Rattle.alb_syntax.specs.Reading.{mono_denoted}
+use Rattle.alb_syntax.specs.Reading.{mono_denoted, is_open, is_close}
 use Rattle.alb_syntax.specs.declared.error.SyntaxError.{SyntaxError}
 use Rattle.alb_deriv.specs.Derivation.{Line, Instance, Times, Sum}
 use Rattle.alb_check.specs.Raw.{Raw}
@@ -220,14 +220,6 @@ abbrev pub later_count : TokenKind → TokenKind → Option ℕ
 later_count kinds.Comma k = count_in k
 later_count other k = None
 
-abbrev pub opens_bracket : TokenKind → Bool
-opens_bracket kinds.Open = true
-opens_bracket other = false
-
-abbrev pub closes_bracket : TokenKind → Bool
-closes_bracket kinds.Close = true
-closes_bracket other = false
-
 abbrev pub onto_counts : Option ℕ → Option (List ℕ) → Option (List ℕ)
 onto_counts None ns = None
 onto_counts (Some n) ns = option_map (λ xs. n ∷ xs) ns
@@ -235,14 +227,14 @@ onto_counts (Some n) ns = option_map (λ xs. n ∷ xs) ns
 -- counts, each after a comma, and the closing bracket
 unfoldable pub later_counts : List Token → Option (List ℕ)
 later_counts [] = None
-later_counts (t ∷ []) = if closes_bracket t.kind then Some [] else None
+later_counts (t ∷ []) = if is_close (Some t.kind) then Some [] else None
 later_counts (c ∷ t ∷ ts) = onto_counts (later_count c.kind t.kind) (later_counts ts)
 
 -- an opening bracket, and counts with commas between them up to the closing bracket
 unfoldable pub counts_in : List Token → Option (List ℕ)
 counts_in [] = None
 counts_in (o ∷ []) = None
-counts_in (o ∷ t ∷ ts) = if opens_bracket o.kind then onto_counts (count_in t.kind) (later_counts ts) else None
+counts_in (o ∷ t ∷ ts) = if is_open (Some o.kind) then onto_counts (count_in t.kind) (later_counts ts) else None
 
 abbrev pub counts_of_tokens : Result (List Token) LexError → Option (List ℕ)
 counts_of_tokens (Ok ts) = counts_in ts

@@ -1,9 +1,10 @@
 //! The lines of a table.
 
-ghost use Rattle.std.specs.Prelude.{◌≡◌, ◌≤◌, ◌-◌, ◌∷◌, ◌++◌, ℕ, false, None, Ok, length, replicate, option_map, IfOk};
+ghost use Rattle.std.specs.Prelude.{◌≡◌, ◌≤◌, ◌-◌, ◌∷◌, ◌++◌, ℕ, false, None, Some, Ok, length, replicate, option_map, IfOk};
 ghost use Rattle.alb_lex.specs.Lexing.{tokens_from};
 ghost use Rattle.alb_check.specs.Raw.{raw};
-ghost use Rattle.alb_evidence.specs.Block.{words, or_bad_line, count_in, later_count, opens_bracket, closes_bracket, later_counts, counts_in, counts_of_tokens, type_from, letter_number, element_of, generator_of, entry_from, row_of, table_line};
+ghost use Rattle.alb_syntax.specs.Reading.{is_open, is_close};
+ghost use Rattle.alb_evidence.specs.Block.{words, or_bad_line, count_in, later_count, later_counts, counts_in, counts_of_tokens, type_from, letter_number, element_of, generator_of, entry_from, row_of, table_line};
 ghost use Rattle.alb_evidence.specs.Gives.{Gives};
 ghost use Rattle.alb_evidence.specs.Said.{IsRawPart};
 
@@ -36,13 +37,13 @@ fn later_count(first: TokenKind, second: TokenKind) -> Option<u8>
 }
 
 fn is_open(kind: TokenKind) -> bool
-    ensures { result ≡ opens_bracket kind }
+    ensures { result ≡ is_open (Some kind) }
 {
     matches!(kind, TokenKind::Open)
 }
 
 fn is_close(kind: TokenKind) -> bool
-    ensures { result ≡ closes_bracket kind }
+    ensures { result ≡ is_close (Some kind) }
 {
     matches!(kind, TokenKind::Close)
 }

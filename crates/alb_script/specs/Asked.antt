@@ -47,33 +47,29 @@ is_early word.Identity = true
 is_early word.Build = true
 is_early other = false
 
+-- the questions about a table
+abbrev pub is_question : Word → Bool
+is_question word.Polynomial = true
+is_question word.Prove = true
+is_question word.Dimensions = true
+is_question word.Table = true
+is_question other = false
+
 -- the words that ask for `build` before them
 abbrev pub is_late : Word → Bool
-is_late word.Polynomial = true
-is_late word.Prove = true
-is_late word.Dimensions = true
-is_late word.Table = true
 is_late word.Claim = true
 is_late word.Await = true
-is_late other = false
+is_late other = is_question other
 
 -- the words of the forms: a batch has no claims and waits for nothing, a check alone has claims, and a session has no problem
 abbrev pub belongs : Form → Word → Bool
 belongs form.Batch word.Claim = false
 belongs form.Batch word.Await = false
 belongs form.Batch other = true
-belongs form.Check word.Polynomial = false
-belongs form.Check word.Prove = false
-belongs form.Check word.Dimensions = false
-belongs form.Check word.Table = false
 belongs form.Check word.Await = false
-belongs form.Check other = true
-belongs form.Session word.Field = false
-belongs form.Session word.Generators = false
-belongs form.Session word.Identity = false
-belongs form.Session word.Build = false
+belongs form.Check other = not (is_question other)
 belongs form.Session word.Claim = false
-belongs form.Session other = true
+belongs form.Session other = not (is_early other)
 
 -- ---- what a line of a script asks for
 
