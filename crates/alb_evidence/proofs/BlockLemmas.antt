@@ -5,7 +5,7 @@ use Rattle.std.proofs.lemmas.Bool.Decides.{nat_tests}
 use Rattle.alb_evidence.specs.Block.{words, Code, ABadLine, ABadNumber, BadLine, Said, say, say_line, is_skipped, are_skipped, evidence_from, go_on}
 use Rattle.alb_evidence.specs.Gives.{Fails}
 use Rattle.alb_evidence.specs.Said.{said, error_at, Takes}
-use Rattle.alb_evidence.specs.declared.block.Block.{Block}
+use Rattle.alb_evidence.specs.declared.block.OpenBlock.{OpenBlock}
 use Rattle.alb_evidence.specs.declared.error.EvidenceError.{EvidenceError}
 use Rattle.alb_evidence.specs.declared.flaw.Flaw.{Flaw}
 use Rattle.alb_evidence.specs.declared.flaw.Flaw.TheVariants as flaws
@@ -44,7 +44,7 @@ module _ (p : ℕ) (letters : List ℕ) (k : ℕ) (s : Said) (line : List ℕ) (
   pub says-long : 65536 < length line → evidence_from p letters k s (line ∷ lines) has_end ≡ Err (BadLine k)
   says-long h = says (Err ABadLine) (rw (not_short line h) refl) (rw (long line h) refl)
 
-pub fault-taken : (p : ℕ) (letters : List ℕ) (old new : Block) (line : List ℕ) (flaw : Flaw) (e : EvidenceError) → e ≡ error_at flaw old.next → Fails flaw (say p letters (said old.said) (words line))
+pub fault-taken : (p : ℕ) (letters : List ℕ) (old new : OpenBlock) (line : List ℕ) (flaw : Flaw) (e : EvidenceError) → e ≡ error_at flaw old.next → Fails flaw (say p letters (said old.said) (words line))
     → length line ≤ 65536 → are_skipped (words line) ≡ false → Takes (Err e) p letters old new line
 fault-taken p letters old new line flaws.BadLine e is fails h s =
     subst (λ (x : EvidenceError). Takes (Err x) p letters old new line) (sym is) (λ lines has_end. says-next p letters old.next (said old.said) line lines has_end (Err ABadLine) h s fails)
@@ -53,7 +53,7 @@ fault-taken p letters old new line flaws.BadNumber e is fails h s =
 fault-taken p letters old new line flaws.NoMemory e is fails h s =
     subst (λ (x : EvidenceError). Takes (Err x) p letters old new line) (sym is) tt
 
-pub line-taken : (p : ℕ) (letters : List ℕ) (old new : Block) (line : List ℕ) → say p letters (said old.said) (words line) ≡ Ok (said new.said) → new.next ≡ old.next + 1
+pub line-taken : (p : ℕ) (letters : List ℕ) (old new : OpenBlock) (line : List ℕ) → say p letters (said old.said) (words line) ≡ Ok (said new.said) → new.next ≡ old.next + 1
     → length line ≤ 65536 → are_skipped (words line) ≡ false → Takes (Ok tt) p letters old new line
 line-taken p letters old new line is next h s =
     λ lines has_end. says-next p letters old.next (said old.said) line lines has_end (Ok (said new.said)) h s is

@@ -7,7 +7,7 @@ use Rattle.alb_evidence.specs.Block.{BlockFault, BadLine, BadNumber, closed, evi
 use Rattle.alb_evidence.specs.Reads.{ReadsAs, Closes}
 use Rattle.alb_evidence.specs.Inside.{IsLineInside, SkipsAfter}
 use Rattle.alb_evidence.specs.Said.{said, says, Takes, Closing}
-use Rattle.alb_evidence.specs.declared.block.Block.{Block}
+use Rattle.alb_evidence.specs.declared.block.OpenBlock.{OpenBlock}
 use Rattle.alb_evidence.specs.declared.evidence.Evidence.{Evidence}
 use Rattle.alb_evidence.specs.declared.said.Said.TheVariants.{Nothing}
 use Rattle.alb_evidence.specs.declared.error.EvidenceError.{EvidenceError}
@@ -15,20 +15,20 @@ use Rattle.alb_evidence.specs.declared.error.EvidenceError.TheVariants as errors
 use Rattle.alb_evidence.proofs.ReadLemmas.{ReadsInside, ReadsInside-nothing, ReadsInside-more, ReadsLines-more, ReadsBlock-close, ReadsBlock-front, Breaks-inside, Breaks-front}
 
 -- some lines were read, which the block stands for
-pub record SoFar (p : ℕ) (letters : List ℕ) (block : Block) (old new : Reader) (before now : Option (List ℕ)) : Type 0 where
+pub record SoFar (p : ℕ) (letters : List ℕ) (block : OpenBlock) (old new : Reader) (before now : Option (List ℕ)) : Type 0 where
   pub lines : List (List ℕ)
   pub inside : ReadsInside lines old new before now
   pub says : (more : List (List ℕ)) (has_end : Bool) → evidence_of p letters (lines ++ more) has_end ≡ says p letters block more has_end
 
-pub SoFar-start : (p : ℕ) (letters : List ℕ) (block : Block) (old : Reader) (before : Option (List ℕ)) → block.said ≡ Nothing → block.next ≡ 1 → SoFar p letters block old old before before
+pub SoFar-start : (p : ℕ) (letters : List ℕ) (block : OpenBlock) (old : Reader) (before : Option (List ℕ)) → block.said ≡ Nothing → block.next ≡ 1 → SoFar p letters block old old before before
 SoFar-start p letters block old before nothing one = record {
   lines = [];
   inside = ReadsInside-nothing old before;
   says = λ more has_end. sym (λ i. evidence_from p letters (one i) (said (nothing i)) more has_end);
 }
 
-module _ (p : ℕ) (letters : List ℕ) (block : Block) (old mid new : Reader) (before between now : Option (List ℕ)) (so_far : SoFar p letters block old mid before between) where
-  pub SoFar-more : (next : Block) (is_long : Bool) (t : IsLineInside is_long mid new between now) → Takes (Ok tt) p letters block next t.line → SoFar p letters next old new before now
+module _ (p : ℕ) (letters : List ℕ) (block : OpenBlock) (old mid new : Reader) (before between now : Option (List ℕ)) (so_far : SoFar p letters block old mid before between) where
+  pub SoFar-more : (next : OpenBlock) (is_long : Bool) (t : IsLineInside is_long mid new between now) → Takes (Ok tt) p letters block next t.line → SoFar p letters next old new before now
   SoFar-more next is_long t takes = record {
     lines = so_far.lines ++ t.line ∷ [];
     inside = ReadsInside-more so_far.lines t.line old mid new before between now so_far.inside t.reads t.no_end;
@@ -64,7 +64,7 @@ module _ (p : ℕ) (letters : List ℕ) (block : Block) (old mid new : Reader) (
   ReadsAs-memory is_long t = (so_far.lines ++ t.line ∷ [], (ReadsInside-more so_far.lines t.line old mid new before between now so_far.inside t.reads t.no_end).reads)
 
   -- a line was faulty
-  module _ (last : Reader) (later : Option (List ℕ)) (is_long : Bool) (t : IsLineInside is_long mid new between now) (next : Block) where
+  module _ (last : Reader) (later : Option (List ℕ)) (is_long : Bool) (t : IsLineInside is_long mid new between now) (next : OpenBlock) where
     inside : ReadsInside (so_far.lines ++ t.line ∷ []) old new before now
     inside = ReadsInside-more so_far.lines t.line old mid new before between now so_far.inside t.reads t.no_end
 

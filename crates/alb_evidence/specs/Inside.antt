@@ -5,7 +5,7 @@ use Rattle.alb_io.specs.declared.step.LineStep.TheVariants as step
 use Rattle.alb_evidence.specs.Block.{is_end}
 use Rattle.alb_evidence.specs.Reads.{ReadsLine, ReadsBlock, Breaks, Closes}
 use Rattle.alb_evidence.specs.Said.{Takes}
-use Rattle.alb_evidence.specs.declared.block.Block.{Block}
+use Rattle.alb_evidence.specs.declared.block.OpenBlock.{OpenBlock}
 use Rattle.alb_evidence.specs.declared.error.EvidenceError.{EvidenceError}
 use Rattle.alb_evidence.specs.declared.error.EvidenceError.TheVariants as errors
 use Rattle.alb_evidence.specs.declared.inside.Inside.{Inside}
@@ -27,7 +27,7 @@ IsNext inside.ReadFault old new before now = Reads step.ReadFault old new before
 IsNext inside.InputLimit old new before now = Reads step.InputLimit old new before now
 
 -- the next line was taken, or is the first faulty one
-abbrev pub TakesNext : Result (Unit {0}) EvidenceError → ℕ → List ℕ → Bool → Option (List ℕ) → Block → Block → Type 0
+abbrev pub TakesNext : Result (Unit {0}) EvidenceError → ℕ → List ℕ → Bool → Option (List ℕ) → OpenBlock → OpenBlock → Type 0
 TakesNext result p letters is_long held old new =
     (line : List ℕ) → is_long ≡ nat_lt 65536 (length line) → (is_long ≡ false → held ≡ Some line) → Takes result p letters old new line
 

@@ -7,7 +7,7 @@ use Rattle.alb_evidence.specs.Block.{BlockFault, BadLine, BadNumber, closed, evi
 use Rattle.alb_evidence.specs.Views.{evidence}
 use Rattle.alb_evidence.specs.declared.said.Said.{Said}
 use Rattle.alb_evidence.specs.declared.said.Said.TheVariants.{Nothing, Derivation, Table}
-use Rattle.alb_evidence.specs.declared.block.Block.{Block}
+use Rattle.alb_evidence.specs.declared.block.OpenBlock.{OpenBlock}
 use Rattle.alb_evidence.specs.declared.flaw.Flaw.{Flaw}
 use Rattle.alb_evidence.specs.declared.flaw.Flaw.TheVariants as flaws
 use Rattle.alb_evidence.specs.declared.evidence.Evidence.{Evidence}
@@ -34,11 +34,11 @@ IsSaid p n (Derivation ls) = All (λ l. IsLine p n l) ls.items
 IsSaid p n (Table t) = IsRawPart p n (raw t)
 
 -- what lines and what closes them say after those that were read
-abbrev pub says : ℕ → List ℕ → Block → List (List ℕ) → Bool → Result value.Evidence BlockFault
+abbrev pub says : ℕ → List ℕ → OpenBlock → List (List ℕ) → Bool → Result value.Evidence BlockFault
 says p letters b lines has_end = evidence_from p letters b.next (said b.said) lines has_end
 
 -- a line was taken, or is the first faulty one
-abbrev pub Takes : Result (Unit {0}) EvidenceError → ℕ → List ℕ → Block → Block → List ℕ → Type 0
+abbrev pub Takes : Result (Unit {0}) EvidenceError → ℕ → List ℕ → OpenBlock → OpenBlock → List ℕ → Type 0
 Takes (Ok u) p letters old new line = (lines : List (List ℕ)) (has_end : Bool) → says p letters old (line ∷ lines) has_end ≡ says p letters new lines has_end
 Takes (Err (errors.BadLine k)) p letters old new line = (lines : List (List ℕ)) (has_end : Bool) → says p letters old (line ∷ lines) has_end ≡ Err (BadLine k)
 Takes (Err (errors.BadNumber k)) p letters old new line = (lines : List (List ℕ)) (has_end : Bool) → says p letters old (line ∷ lines) has_end ≡ Err (BadNumber k)

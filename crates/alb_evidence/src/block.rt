@@ -19,7 +19,7 @@ use std::alloc::Global;
 
 /// A block of which some lines were read.
 #[derive(Drop)]
-pub struct Block {
+pub struct OpenBlock {
     /// What they say.
     pub said: Said,
     /// The number of the next line that is counted.
@@ -48,13 +48,13 @@ fn close_table(letters: &Letters, mut table: RawTable) -> Result<Evidence, Evide
     }
 }
 
-impl Block {
+impl OpenBlock {
     /// A block of which nothing was read.
-    pub fn new() -> Block
+    pub fn new() -> OpenBlock
         ensures said { result.said ≡ Said.Nothing }
         ensures next { result.next ≡ 1 }
     {
-        Block {
+        OpenBlock {
             said: Said::Nothing,
             next: 1,
         }

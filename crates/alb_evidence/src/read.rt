@@ -5,7 +5,7 @@ ghost use Rattle.alb_evidence.specs.Reads.{ReadsAs};
 ghost use Rattle.alb_evidence.specs.Said.{IsSaid};
 ghost use Rattle.alb_evidence.specs.Views.{IsEvidence};
 
-use crate::block::Block;
+use crate::block::OpenBlock;
 use crate::error::{EvidenceError, SkipError};
 use crate::evidence::Evidence;
 use crate::inside::{Inside, next_inside};
@@ -20,7 +20,7 @@ fn take_next(
     alloc: Global,
     field: &Field,
     letters: &Letters,
-    block: &mut Block,
+    block: &mut OpenBlock,
     reader: &LineReader,
     is_long: bool,
 ) -> Result<(), EvidenceError>
@@ -84,7 +84,7 @@ pub fn read_evidence<S: Source>(
     // A sound source does not fail.
     ensures sound { S.is_sound source.old → S.is_sound source.new × (result ≢ Err EvidenceError.ReadFault) }
 {
-    let mut block = Block::new();
+    let mut block = OpenBlock::new();
     'lines: loop {
         match next_inside(reader, source) {
             Inside::Line { is_long } => {

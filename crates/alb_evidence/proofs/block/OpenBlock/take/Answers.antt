@@ -1,7 +1,7 @@
 use Rattle.std.proofs.Common.{◌∙◌, sym, arith}
 use Rattle.alb_evidence.specs.Said.{said}
 use Rattle.alb_evidence.proofs.BlockLemmas.{says-skipped, fault-taken, line-taken}
-use Rattle.alb_evidence.proofs.block.Block.take.Goals as goal
+use Rattle.alb_evidence.proofs.block.OpenBlock.take.Goals as goal
 
 pub returns-then-is_skipped-clause-takes : goal.returns-then-is_skipped-clause-takes
 returns-then-is_skipped-clause-takes c = λ lines has_end.
