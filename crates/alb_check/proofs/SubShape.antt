@@ -21,7 +21,7 @@ use Rattle.alb_table.proofs.PartLemmas.{elems_step}
 use Rattle.alb_table.proofs.RangeLemmas.{type_first, type_later, type_of_range}
 use Rattle.alb_table.proofs.TableLemmas.{type_shape, long_enough}
 use Rattle.alb_check.specs.declared.raw.RawEntry.{RawEntry}
-use Rattle.alb_check.specs.Raw.{Raw, IsRaw, is_element, type_at as raw_type, is_top_right, are_elements_right, is_generator_right, are_generators_right, is_entry_right, is_before, are_ascending, shape_fault}
+use Rattle.alb_check.specs.Raw.{Raw, IsRaw, is_element, element_type as raw_type, is_top_right, are_elements_right, is_generator_right, are_generators_right, is_entry_right, is_before, are_ascending, shape_fault}
 use Rattle.alb_check.specs.SubTable.{is_kept, kept_elements, number_of, generator_number, row_entries, product_entries, sub_table}
 use Rattle.alb_check.proofs.Passing.{Rises, rises-flat, rises-map, rises-from, rises-where, passing, passing-each, passing-rises, places-few, place-less, place-get}
 use Rattle.alb_check.proofs.TableLemmas.{IsShaped}

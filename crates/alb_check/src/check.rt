@@ -2,7 +2,7 @@ ghost use Rattle.std.specs.Prelude.{◌≡◌, ◌<◌, ◌≤◌, IsTrue, All, 
 ghost use Rattle.alb_poly.specs.Consequence.{IsConsequence, forms};
 ghost use Rattle.alb_poly.specs.Poly.{AreResidues};
 ghost use Rattle.alb_mono.specs.Tree.{are_below};
-ghost use Rattle.alb_rows.specs.Row.{comb, AreResidues as HasResidues, AreSameVector};
+ghost use Rattle.alb_rows.specs.Row.{comb, AreCellResidues as HasResidues, AreSameVector};
 ghost use Rattle.alb_check.specs.Raw.{raw, IsRaw, shape_fault};
 ghost use Rattle.alb_check.specs.TableAlgebra.{value, IsNilpotent, AreZeroAtTuples};
 ghost use Rattle.alb_check.specs.Products.{AreProducts, GivesProducts, GivesGenerators};

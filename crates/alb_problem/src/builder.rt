@@ -37,7 +37,7 @@ impl Model for ProblemBuilder {
     ghost use Rattle.alb_mono.specs.Listing.{Each};
     ghost use Rattle.alb_poly.specs.Consequence.{form};
     ghost use Rattle.alb_linear.specs.Identity.{IsIdentity};
-    ghost use Rattle.alb_problem.specs.Builder.{Builder, builder_code, linear_form, IsSound};
+    ghost use Rattle.alb_problem.specs.Builder.{Builder, builder_code, linear_form, IsSoundBuilder};
 
     ghost Value = { Builder };
 
@@ -45,7 +45,7 @@ impl Model for ProblemBuilder {
 
     ghost view = { λ b. record { field = b.field; letters = b.letters; counts = b.target; identities = map (λ f. f.poly) b.identities.items } };
 
-    ghost invariant = { λ b. IsSound (record { field = b.field; letters = b.letters; counts = b.target; identities = map (λ f. f.poly) b.identities.items })
+    ghost invariant = { λ b. IsSoundBuilder (record { field = b.field; letters = b.letters; counts = b.target; identities = map (λ f. f.poly) b.identities.items })
         × Each IsIdentity b.identities.items
         × (map form b.linears.items ≡ map (λ f. linear_form b.field f.poly) b.identities.items) };
 }

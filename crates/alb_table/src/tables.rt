@@ -31,13 +31,13 @@ pub struct Tables {
 
 impl Model for Tables {
     ghost use Rattle.alb_table.specs.Table.{Table};
-    ghost use Rattle.alb_table.specs.Views.{views, IsKept};
+    ghost use Rattle.alb_table.specs.Views.{views, IsKeptTable};
 
     ghost Value = { Table };
 
     ghost view = { λ t. record { p = t.field; target = t.target; degree = t.degree; parts = views t.store } };
 
-    ghost invariant = { λ t. IsKept (record { p = t.field; target = t.target; degree = t.degree; parts = views t.store }) t.store };
+    ghost invariant = { λ t. IsKeptTable (record { p = t.field; target = t.target; degree = t.degree; parts = views t.store }) t.store };
 }
 
 impl Tables {
