@@ -72,7 +72,7 @@ fn those_fitting(
 fn rest_after(table: &RawTable, rest: &Multi, k: u64) -> Multi
     requires element { IsElement (raw table.now) k }
     requires long { length (element_type (raw table.now) k) ≡ length rest.now }
-    requires fits_top { fits_top (raw table.now) rest.now k ≡ true }
+    requires fits { fits_top (raw table.now) rest.now k ≡ true }
     ensures { result ≡ type_minus rest.now (element_type (raw table.now) k) }
 {
     rest.minus(&table.elements[(k - 1) as usize])
