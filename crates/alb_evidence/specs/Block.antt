@@ -14,7 +14,6 @@ use Rattle.alb_syntax.specs.declared.error.SyntaxError.{SyntaxError}
 use Rattle.alb_deriv.specs.Derivation.{Line, Instance, Times, Sum}
 use Rattle.alb_check.specs.Raw.{Raw}
 use Rattle.alb_lex.specs.declared.token.TokenKind.TheVariants as kinds
-
 -- ---- how a line of evidence is cut into words
 
 pub use Rattle.alb_lex.specs.Lexing.{is_word}
