@@ -1,7 +1,10 @@
-//! Tests of the machine of a build: a row of events, and all runs of a small machine.
+//! Tests of the machine of a build and of the board: a row of events, all runs of a small machine, and sessions in threads beside
+//! a builder.
 #![tactic(auto)]
 
 #[cfg(test)]
 mod events;
 #[cfg(test)]
 mod interleavings;
+#[cfg(test)]
+mod sessions;
