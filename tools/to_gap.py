@@ -121,7 +121,6 @@ def translated(answers):
             yield from defined(k, algebra, p)
             yield from tested(k, identities)
             yield from [] if is_listed else refuted(k, algebra, text, p)
-    yield "QUIT;"
 
 
 def main():
@@ -129,7 +128,7 @@ def main():
         sys.exit("usage: tools/to_gap.py SCRIPT ANSWERS")
     try:
         with open(sys.argv[1], "rb") as script, open(sys.argv[2], "rb") as answers:
-            print(*translated(turns("batch", script, answers)), sep="\n")
+            print(*translated(turns("batch", script, answers)), "QUIT;", sep="\n")
     except Fault as fault:
         sys.exit(f"to_gap: {fault}")
 
