@@ -3,10 +3,10 @@
 
     tools/prove.py FILE [CHECK]
 
-Each question `polynomial` of FILE is asked with `prove`. What the program answers is printed without the evidence, and last a
-line such as `12 pieces of evidence, 12 accepted`. Where CHECK is named, the problem and the claims with their evidence are
-written there, as a script of `albert check` that anybody can judge (`tools/evidence.py < CHECK`). The status is 0 only if no
-line was refused and all evidence was accepted.
+Each question `polynomial` of FILE is asked with `prove`. What the program answers is printed without the evidence, then a line
+such as `12 pieces of evidence, 12 accepted`, and how many lines were refused, if any. Where CHECK is named, the problem and the
+claims with their evidence are written there, as a script of `albert check` that anybody can judge (`tools/evidence.py < CHECK`).
+The status is 0 only if no line was refused and all evidence was accepted.
 """
 
 import os
@@ -17,6 +17,7 @@ import sys
 sys.dont_write_bytecode = True
 TOP = os.path.dirname(os.path.dirname(os.path.realpath(__file__)))
 sys.path.insert(0, os.path.join(TOP, "scripts"))
+from explain import counted
 from transcript import numbered, turns
 
 ALBERT = os.path.join(TOP, "albert")
@@ -76,7 +77,10 @@ def main():
         with open(sys.argv[2], "wb") as file:
             file.writelines(line + b"\n" for line in with_evidence(answers))
     number, right = accepted(answers)
-    print(f"{number} pieces of evidence, {right} accepted")
+    print(f"{counted(number, 'piece', 'pieces')} of evidence, {right} accepted")
+    refused = sum(turn.answer.startswith(b"refused") for turn in answers)
+    if refused:
+        print(f"{counted(refused, 'line', 'lines')} refused: the answers are about what was accepted")
     return status or (1 if right < number else 0)
 
 
