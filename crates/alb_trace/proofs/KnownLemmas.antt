@@ -1,27 +1,48 @@
 -- What a trace knows, and what it knows more once it is noted.
-use Rattle.std.proofs.Common.{◌≡◌, ℕ, ◌<◌, true, cond, List, [], ◌∷◌, ◌++◌, length, get_or, map, sym, ap, ◌∙◌, subst, inl, inr, Some}
+use Rattle.std.proofs.Common.{◌≡◌, ℕ, Bool, true, cond, List, map, refl, sym, ap, ◌∙◌, subst, inl, inr, Option, Some, nat_eq, eqb-true, BuildHasherDefault, FoldHasher}
+use Rattle.std.specs.Prelude.{◌==◌}
+use Rattle.std.specs.Cmp.Lexicographic.{pointwise, bytes_decides}
 use Rattle.std.proofs.lemmas.Bool.{cases_Bool}
-use Rattle.indexmap.specs.IndexMap.{get}
-use Rattle.std.specs.Prelude.{All}
-use Rattle.alb_mono.specs.Listing.{Each}
-use Rattle.alb_mono.proofs.ListingLemmas.{each-at}
-use Rattle.alb_mono.specs.Tree.{tree, same_tree}
+use Rattle.indexmap.specs.IndexMap.{IndexMap, get}
+use Rattle.alb_mono.proofs.Both.{both_tests}
+use Rattle.alb_mono.specs.Tree.{tree}
 use Rattle.alb_mono.specs.declared.mono.Mono.{Mono}
 use Rattle.alb_poly.specs.Instance.{Form}
 use Rattle.alb_poly.specs.Poly.{Poly}
 use Rattle.alb_poly.proofs.Consequence.{tree_tells}
-use Rattle.alb_poly.proofs.Multilinear.{each-append}
-use Rattle.alb_deriv.specs.Short.{AreFine, IsSumOf}
-use Rattle.alb_deriv.specs.Views.{line, IsLine}
+use Rattle.alb_deriv.specs.Short.{IsSumOf}
+use Rattle.alb_deriv.specs.Views.{line}
 use Rattle.alb_table.specs.Table.{same_pair, Table}
 use Rattle.alb_subst.proofs.SumLemmas.{pairs_tell}
 use Rattle.alb_trace.specs.Adds.{item_of, Adds}
-use Rattle.alb_trace.specs.Origins.{IsOriginBlock}
-use Rattle.alb_trace.specs.Trace.{most_items, lines_of, product_less, mono_less, IsTrace, Derives}
+use Rattle.alb_tidy.specs.declared.mono_key.MonoKey.{MonoKey}
+use Rattle.alb_trace.specs.Origins.{origin_row}
+use Rattle.alb_trace.specs.Trace.{most_items, lines_of, product_less, mono_less, same_mono, same_row, IsTrace, Derives}
+use Rattle.alb_trace.specs.declared.row_key.RowKey.{RowKey}
 use Rattle.alb_trace.specs.declared.trace.Citation.{Citation}
 use Rattle.alb_trace.specs.declared.trace.Trace.{Trace}
 
+abbrev Products : Type 0
+Products = IndexMap (ℕ × ℕ) Citation (BuildHasherDefault FoldHasher)
+
+abbrev Monomials : Type 0
+Monomials = IndexMap MonoKey Citation (BuildHasherDefault FoldHasher)
+
+abbrev Rows : Type 0
+Rows = IndexMap RowKey Citation (BuildHasherDefault FoldHasher)
+
 module _ (fs : List Form) (t : Table) where
+  -- what is noted, and what was known before
+  noted : {K : Type 0} (same : K → K → Bool) (P : Citation → K → Type 0) (key : K) (o : Citation) (before : K → Option Citation) → ((k : K) → same key k ≡ true → P o k) →
+      ((k : K) (u : Citation) → before k ≡ Some u → P u k) → (k : K) (u : Citation) → cond (same key k) (Some o) (before k) ≡ Some u → P u k
+  noted same P key o before new old k u g = elim (cases_Bool (same key k)) [
+    | inl y ↦ (
+        let n : Some o ≡ Some u = rw y at g in
+        let v : o ≡ u = cc in
+        subst (λ x. P x k) v (new k y))
+    | inr y ↦ old k u (rw y at g)
+  ]
+
   -- a trace with the same lines
   derives-more : (old s new : Trace) (o : Citation) {f : Poly} → new.lines.items ≡ s.lines.items → IsTrace fs t new → Derives fs t old s o f → Derives fs t old new o f
   derives-more old s new o {f} e h d =
@@ -31,53 +52,63 @@ module _ (fs : List Form) (t : Table) where
         adds = subst (λ ls. Adds t.p most_items t.target fs (lines_of old) ls o f) (sym q) d.adds;
       }
 
-  pub note-product : (old s new : Trace) (b c : ℕ) (o : Citation) → new.lines.items ≡ s.lines.items → new.monomials.items ≡ s.monomials.items → new.blocks.items ≡ s.blocks.items →
-      ((q : ℕ × ℕ) → get same_pair new.products q ≡ cond (same_pair (b, c) q) (Some o) (get same_pair s.products q)) →
-      Derives fs t old s o (product_less t (b, c)) → Derives fs t old new o (product_less t (b, c))
-  note-product old s new b c o e em eb ep d =
-      let q : lines_of new ≡ lines_of s = ap (map line) e in
+  pub note-product : (old s : Trace) (b c : ℕ) (o : Citation) (products : Products) → ((q : ℕ × ℕ) → get same_pair products q ≡ cond (same_pair (b, c) q) (Some o) (get same_pair s.products q)) →
+      Derives fs t old s o (product_less t (b, c)) → Derives fs t old (record s { products = products }) o (product_less t (b, c))
+  note-product old s b c o products ep d =
       let h : IsTrace fs t s = d.trace in
-      derives-more old s new o e (record {
+      derives-more old s (record s { products = products }) o refl (record {
         table = h.table;
-        fine = subst (AreFine t.p most_items t.target fs) (sym q) h.fine;
-        printable = subst (All (λ l. IsLine t.p (length t.target) l)) (sym e) h.printable;
-        products = λ k u g. subst (λ ls. IsSumOf t.p fs ls (item_of u) (product_less t k)) (sym q) (at k u (sym (ep k) ∙ g));
-        monomials = subst (λ ls. Each (λ x. IsSumOf t.p fs ls (item_of x.1) (mono_less t (tree x.0))) new.monomials.items) (sym q)
-            (subst (Each (λ x. IsSumOf t.p fs (lines_of s) (item_of x.1) (mono_less t (tree x.0)))) (sym em) h.monomials);
-        blocks = subst (Each (λ b. IsOriginBlock fs t b.at b.columns b.reduced)) (sym eb) h.blocks;
+        fine = h.fine;
+        printable = h.printable;
+        products = λ k u g. noted same_pair (λ x q. IsSumOf t.p fs (lines_of s) (item_of x) (product_less t q)) (b, c) o (get same_pair s.products)
+            (λ q y. subst (λ x. IsSumOf t.p fs (lines_of s) (item_of o) (product_less t x)) (pairs_tell.sound (b, c) q y) d.adds.sum) h.products k u (sym (ep k) ∙ g);
+        monomials = h.monomials;
+        rows = h.rows;
+        blocks = h.blocks;
+      }) d
+
+  pub note-mono : (old s : Trace) (m : Mono) (key : MonoKey) (o : Citation) (monomials : Monomials) → tree key.mono ≡ tree m →
+      ((k : MonoKey) → get same_mono monomials k ≡ cond (same_mono key k) (Some o) (get same_mono s.monomials k)) →
+      Derives fs t old s o (mono_less t (tree m)) → Derives fs t old (record s { monomials = monomials }) o (mono_less t (tree m))
+  note-mono old s m key o monomials same em d =
+      let h : IsTrace fs t s = d.trace in
+      derives-more old s (record s { monomials = monomials }) o refl (record {
+        table = h.table;
+        fine = h.fine;
+        printable = h.printable;
+        products = h.products;
+        monomials = λ k u g. noted same_mono (λ x q. IsSumOf t.p fs (lines_of s) (item_of x) (mono_less t (tree q.mono))) key o (get same_mono s.monomials)
+            (λ q y. subst (λ x. IsSumOf t.p fs (lines_of s) (item_of o) (mono_less t x)) (sym same ∙ tree_tells.sound (tree key.mono) (tree q.mono) y) d.adds.sum) h.monomials k u (sym (em k) ∙ g);
+        rows = h.rows;
+        blocks = h.blocks;
+      }) d
+
+  pub note-row : (old s : Trace) (at : List ℕ) (number : ℕ) (key : RowKey) (o : Citation) (rows : Rows) → key.at ≡ at → key.number ≡ number →
+      ((k : RowKey) → get same_row rows k ≡ cond (same_row key k) (Some o) (get same_row s.rows k)) →
+      Derives fs t old s o (origin_row fs t at number) → Derives fs t old (record s { rows = rows }) o (origin_row fs t at number)
+  note-row old s at number key o rows ea en er d =
+      let h : IsTrace fs t s = d.trace in
+      derives-more old s (record s { rows = rows }) o refl (record {
+        table = h.table;
+        fine = h.fine;
+        printable = h.printable;
+        products = h.products;
+        monomials = h.monomials;
+        rows = λ k u g. noted same_row (λ x q. IsSumOf t.p fs (lines_of s) (item_of x) (origin_row fs t q.at q.number)) key o (get same_row s.rows)
+            (λ q y. let z = rows-tell key q y in
+            subst (λ (x : List ℕ × ℕ). IsSumOf t.p fs (lines_of s) (item_of o) (origin_row fs t x.0 x.1)) (λ i. ((sym ea ∙ z.0) i, (sym en ∙ z.1) i)) d.adds.sum) h.rows k u (sym (er k) ∙ g);
+        blocks = h.blocks;
       }) d
     where
-      at : (k : ℕ × ℕ) (u : Citation) → cond (same_pair (b, c) k) (Some o) (get same_pair s.products k) ≡ Some u → IsSumOf t.p fs (lines_of s) (item_of u) (product_less t k)
-      at k u g = elim (cases_Bool (same_pair (b, c) k)) [
-        | inl y ↦ (
-            let n : Some o ≡ Some u = rw y at g in
-            let v : o ≡ u = cc in
-            subst (λ x. IsSumOf t.p fs (lines_of s) (item_of x) (product_less t k)) v (subst (λ x. IsSumOf t.p fs (lines_of s) (item_of o) (product_less t x)) (pairs_tell.sound (b, c) k y) d.adds.sum))
-        | inr y ↦ d.trace.products k u (rw y at g)
-      ]
+      rows-tell : (x y : RowKey) → same_row x y ≡ true → (x.at ≡ y.at) × (x.number ≡ y.number)
+      rows-tell x y e =
+          let b = both_tests (pointwise nat_eq x.at y.at) (x.number == y.number) e in
+          ((bytes_decides x.at y.at).0 b.0, eqb-true x.number y.number b.1)
 
-  pub note-mono : (old s new : Trace) (m copy : Mono) (o : Citation) → new.lines.items ≡ s.lines.items → new.monomials.items ≡ s.monomials.items ++ (copy, o) ∷ [] → new.blocks.items ≡ s.blocks.items →
-      ((q : ℕ × ℕ) → get same_pair new.products q ≡ get same_pair s.products q) → tree copy ≡ tree m → Derives fs t old s o (mono_less t (tree m)) → Derives fs t old new o (mono_less t (tree m))
-  note-mono old s new m copy o e em eb ep same d =
-      let q : lines_of new ≡ lines_of s = ap (map line) e in
-      let h : IsTrace fs t s = d.trace in
-      derives-more old s new o e (record {
-        table = h.table;
-        fine = subst (AreFine t.p most_items t.target fs) (sym q) h.fine;
-        printable = subst (All (λ l. IsLine t.p (length t.target) l)) (sym e) h.printable;
-        products = λ k u g. subst (λ ls. IsSumOf t.p fs ls (item_of u) (product_less t k)) (sym q) (h.products k u (sym (ep k) ∙ g));
-        monomials = subst (λ ls. Each (λ x. IsSumOf t.p fs ls (item_of x.1) (mono_less t (tree x.0))) new.monomials.items) (sym q)
-            (subst (Each (λ x. IsSumOf t.p fs (lines_of s) (item_of x.1) (mono_less t (tree x.0)))) (sym em)
-            (each-append (λ x. IsSumOf t.p fs (lines_of s) (item_of x.1) (mono_less t (tree x.0))) s.monomials.items ((copy, o) ∷ []) h.monomials
-            (subst (λ x. IsSumOf t.p fs (lines_of s) (item_of o) (mono_less t x)) (sym same) d.adds.sum, tt)));
-        blocks = subst (Each (λ b. IsOriginBlock fs t b.at b.columns b.reduced)) (sym eb) h.blocks;
-      }) d
+  -- what is known of a monomial and of a row
+  pub mono-found : (s : Trace) (m : Mono) (key : MonoKey) (o : Citation) → tree key.mono ≡ tree m → get same_mono s.monomials key ≡ Some o → IsTrace fs t s → IsSumOf t.p fs (lines_of s) (item_of o) (mono_less t (tree m))
+  mono-found s m key o e g h = subst (λ x. IsSumOf t.p fs (lines_of s) (item_of o) (mono_less t x)) e (h.monomials key o g)
 
-  -- the line of a monomial that stands in the list
-  pub mono-found : (s : Trace) (m : Mono) (xs : List (Mono × Citation)) (k : ℕ) (item : Mono × Citation) → IsTrace fs t s → xs ≡ s.monomials.items → k < length xs → item ≡ get_or xs k item →
-      same_tree (tree item.0) (tree m) ≡ true → IsSumOf t.p fs (lines_of s) (item_of item.1) (mono_less t (tree m))
-  mono-found s m xs k item h q l is e =
-      subst (λ x. IsSumOf t.p fs (lines_of s) (item_of item.1) (mono_less t x)) (tree_tells.sound _ _ e)
-      (subst (λ x. IsSumOf t.p fs (lines_of s) (item_of x.1) (mono_less t (tree x.0))) (sym is)
-      (each-at (λ x. IsSumOf t.p fs (lines_of s) (item_of x.1) (mono_less t (tree x.0))) xs k item
-      (subst (Each (λ x. IsSumOf t.p fs (lines_of s) (item_of x.1) (mono_less t (tree x.0)))) (sym q) h.monomials) l))
+  pub row-found : (s : Trace) (at : List ℕ) (number : ℕ) (key : RowKey) (o : Citation) → key.at ≡ at → key.number ≡ number → get same_row s.rows key ≡ Some o → IsTrace fs t s →
+      IsSumOf t.p fs (lines_of s) (item_of o) (origin_row fs t at number)
+  row-found s at number key o ea en g h = subst (λ (x : List ℕ × ℕ). IsSumOf t.p fs (lines_of s) (item_of o) (origin_row fs t x.0 x.1)) (λ i. (ea i, en i)) (h.rows key o g)

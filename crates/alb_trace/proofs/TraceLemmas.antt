@@ -28,7 +28,9 @@ use Rattle.alb_mono.specs.declared.mono.Mono.{Mono}
 use Rattle.alb_trace.specs.Adds.{item_of, IsLonger}
 use Rattle.alb_trace.specs.Given.{FitsTarget}
 use Rattle.alb_trace.specs.Origins.{IsOriginBlock}
-use Rattle.alb_trace.specs.Trace.{most_items, lines_of, mono_less, IsTrace, Derives, Carries}
+use Rattle.alb_tidy.specs.declared.mono_key.MonoKey.{MonoKey}
+use Rattle.alb_trace.specs.Trace.{most_items, lines_of, same_mono, same_row, IsTrace, Derives, Carries}
+use Rattle.alb_trace.specs.declared.row_key.RowKey.{RowKey}
 use Rattle.alb_trace.specs.declared.trace.Citation.{Citation}
 use Rattle.alb_trace.specs.declared.trace.Citation.TheVariants as citations
 use Rattle.alb_trace.specs.declared.trace.Trace.{Trace}
@@ -48,31 +50,37 @@ right-each : {X : Type 0} (P : X → Type 0) (xs ys : List X) → Each P (xs ++ 
 right-each P [] ys a = a
 right-each P (x ∷ xs) ys a = right-each P xs ys a.1
 
+-- the two know the same
+pub record SameKnown (old new : Trace) : Type 0 where
+  pub products : (q : ℕ × ℕ) → get same_pair new.products q ≡ get same_pair old.products q
+  pub monomials : (k : MonoKey) → get same_mono new.monomials k ≡ get same_mono old.monomials k
+  pub rows : (k : RowKey) → get same_row new.rows k ≡ get same_row old.rows k
+  pub blocks : new.blocks.items ≡ old.blocks.items
+
 module _ (fs : List Form) (t : Table) where
   -- what is known stays known after further lines
-  pub trace-longer : (old new : Trace) → IsLonger (lines_of old) (lines_of new) → ((q : ℕ × ℕ) → get same_pair new.products q ≡ get same_pair old.products q) → new.monomials.items ≡ old.monomials.items → new.blocks.items ≡ old.blocks.items →
-      AreFine t.p most_items t.target fs (lines_of new) → All (λ l. IsLine t.p (length t.target) l) new.lines.items → IsTrace fs t old → IsTrace fs t new
-  trace-longer old new longer ep em eb fine printable h = record {
+  pub trace-longer : (old new : Trace) → IsLonger (lines_of old) (lines_of new) → SameKnown old new → AreFine t.p most_items t.target fs (lines_of new) → All (λ l. IsLine t.p (length t.target) l) new.lines.items → IsTrace fs t old → IsTrace fs t new
+  trace-longer old new longer e fine printable h = record {
     table = h.table;
     fine = fine;
     printable = printable;
-    products = λ q o g. longer-sum t.p fs longer (item_of o) (h.products q o (sym (ep q) ∙ g));
-    monomials = subst (Each (λ x. IsSumOf t.p fs (lines_of new) (item_of x.1) (mono_less t (tree x.0)))) (sym em)
-        (each-from _ _ old.monomials.items (λ x k. longer-sum t.p fs longer (item_of x.1) k) h.monomials);
-    blocks = subst (Each (λ b. IsOriginBlock fs t b.at b.columns b.reduced)) (sym eb) h.blocks;
+    products = λ q o g. longer-sum t.p fs longer (item_of o) (h.products q o (sym (e.products q) ∙ g));
+    monomials = λ k o g. longer-sum t.p fs longer (item_of o) (h.monomials k o (sym (e.monomials k) ∙ g));
+    rows = λ k o g. longer-sum t.p fs longer (item_of o) (h.rows k o (sym (e.rows k) ∙ g));
+    blocks = subst (Each (λ b. IsOriginBlock fs t b.at b.columns b.reduced)) (sym e.blocks) h.blocks;
   }
 
   -- a line after the others
-  pub line-derives : (old new : Trace) (l : Line) (n : ℕ) (f : Poly) → new.lines.items ≡ old.lines.items ++ l ∷ [] → ((q : ℕ × ℕ) → get same_pair new.products q ≡ get same_pair old.products q) → new.monomials.items ≡ old.monomials.items → new.blocks.items ≡ old.blocks.items →
+  pub line-derives : (old new : Trace) (l : Line) (n : ℕ) (f : Poly) → new.lines.items ≡ old.lines.items ++ l ∷ [] → SameKnown old new →
       n ≡ length new.lines.items → IsTrace fs t old → IsLine t.p (length t.target) l → AreFine t.p most_items t.target fs (lines_of old ++ line l ∷ []) →
       IsLineOf t.p fs (lines_of old ++ line l ∷ []) (length (lines_of old) + 1) f → Derives fs t old new (citations.Line n) f
-  line-derives old new l n f e ep em eb en h i fine is =
+  line-derives old new l n f e known en h i fine is =
       let v : lines_of new ≡ lines_of old ++ line l ∷ [] = views-more old.lines.items new.lines.items l e in
       let longer : IsLonger (lines_of old) (lines_of new) = longer-one (line l) v in
       let c : length (lines_of old) + 1 ≡ n = omega (arith, length-map old.lines.items line, ap length e, length-append old.lines.items (l ∷ [])) in
       let fine_new : AreFine t.p most_items t.target fs (lines_of new) = subst (AreFine t.p most_items t.target fs) (sym v) fine in
       record {
-        trace = trace-longer old new longer ep em eb fine_new (all-more (λ k. IsLine t.p (length t.target) k) old.lines.items new.lines.items l e h.printable i) h;
+        trace = trace-longer old new longer known fine_new (all-more (λ k. IsLine t.p (length t.target) k) old.lines.items new.lines.items l e h.printable i) h;
         adds = record {
           longer = longer;
           fine = fine_new;

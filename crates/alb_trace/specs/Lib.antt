@@ -6,5 +6,6 @@ pub mod Trace
 pub mod Recipes
 pub mod Answer
 pub mod Proof
+pub mod TidyProof
 pub mod Laws
 pub mod FirstType

@@ -1,8 +1,9 @@
 -- What contracts see of a trace: the lines so far, and what is derived already.
-use Rattle.std.specs.Prelude.{◌≡◌, ℕ, ◌<◌, List, ◌++◌, Some, All, length, map}
+use Rattle.std.specs.Prelude.{◌≡◌, ℕ, ◌<◌, ◌&&◌, ◌==◌, Bool, nat_eq, List, ◌++◌, Some, All, length, map}
+use Rattle.std.specs.Cmp.Lexicographic.{pointwise}
 use Rattle.indexmap.specs.IndexMap.{get}
 use Rattle.alb_mono.specs.Listing.{Each}
-use Rattle.alb_mono.specs.Tree.{tree, Tree, leaf, node}
+use Rattle.alb_mono.specs.Tree.{tree, Tree, leaf, node, same_tree}
 use Rattle.alb_poly.specs.Textbook.{unit}
 use Rattle.alb_poly.specs.Poly.{Poly}
 use Rattle.alb_poly.specs.Instance.{Form}
@@ -14,7 +15,9 @@ use Rattle.alb_table.specs.Block.{image}
 use Rattle.alb_table.specs.Right.{difference, mono_value}
 use Rattle.alb_table.specs.RightTable.{mono_entry}
 use Rattle.alb_trace.specs.Adds.{item_of, IsLonger, Adds}
-use Rattle.alb_trace.specs.Origins.{IsOriginBlock}
+use Rattle.alb_tidy.specs.declared.mono_key.MonoKey.{MonoKey}
+use Rattle.alb_trace.specs.Origins.{IsOriginBlock, origin_row}
+use Rattle.alb_trace.specs.declared.row_key.RowKey.{RowKey}
 use Rattle.alb_trace.specs.declared.trace.Citation.{Citation}
 use Rattle.alb_trace.specs.declared.trace.Trace.{Trace}
 
@@ -43,14 +46,22 @@ image_less t m = difference t.p (unit m) (image node (mono_entry t.parts) (λ k.
 unfoldable pub entries_less : Table → Tree → Poly
 entries_less t m = difference t.p (image node (mono_entry t.parts) (λ k. unit (leaf k)) m) (mono_value (mono_entry t.parts) m)
 
+-- whether two monomials, or two kept instances, are one
+abbrev pub same_mono : MonoKey → MonoKey → Bool
+same_mono x y = same_tree (tree x.mono) (tree y.mono)
+
+abbrev pub same_row : RowKey → RowKey → Bool
+same_row x y = pointwise nat_eq x.at y.at && x.number == y.number
+
 -- WHAT A TRACE KEEPS: its lines have no fault and can be printed, each product and monomial that it knows is cited as it was
--- derived, less its entry or value, and its blocks are those of kept instances
+-- derived, less its entry or value, each row of a kept instance likewise, and its blocks are those of kept instances
 pub record IsTrace (fs : List Form) (t : Table) (s : Trace) : Type 0 where
   pub table : IsTable t
   pub fine : AreFine t.p most_items t.target fs (lines_of s)
   pub printable : All (λ l. IsLine t.p (length t.target) l) s.lines.items
   pub products : (q : ℕ × ℕ) (o : Citation) → get same_pair s.products q ≡ Some o → IsSumOf t.p fs (lines_of s) (item_of o) (product_less t q)
-  pub monomials : Each (λ x. IsSumOf t.p fs (lines_of s) (item_of x.1) (mono_less t (tree x.0))) s.monomials.items
+  pub monomials : (k : MonoKey) (o : Citation) → get same_mono s.monomials k ≡ Some o → IsSumOf t.p fs (lines_of s) (item_of o) (mono_less t (tree k.mono))
+  pub rows : (k : RowKey) (o : Citation) → get same_row s.rows k ≡ Some o → IsSumOf t.p fs (lines_of s) (item_of o) (origin_row fs t k.at k.number)
   pub blocks : Each (λ b. IsOriginBlock fs t b.at b.columns b.reduced) s.blocks.items
 
 -- the polynomial `f` has been derived, and is cited by `o`

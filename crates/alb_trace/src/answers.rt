@@ -9,7 +9,7 @@ ghost use Rattle.alb_table.specs.Table.{elems, Table, CoversType};
 ghost use Rattle.alb_table.specs.Right.{IsWithinDegree};
 ghost use Rattle.alb_table.specs.RightTable.{rules_view, AreRules, IsRightFor};
 ghost use Rattle.alb_query.specs.Answer.{Zero, IsAnswer};
-ghost use Rattle.alb_trace.specs.Answer.{AreLinesFor};
+ghost use Rattle.alb_trace.specs.Answer.{AreLinesFor, Stands};
 ghost use Rattle.alb_trace.specs.Ground.{IsGround};
 ghost use Rattle.alb_trace.specs.Origins.{product_type};
 ghost use Rattle.alb_trace.specs.Trace.{product_less, mono_less, IsTrace, Derives, PushesItems};
@@ -22,6 +22,7 @@ use alb_deriv::Line;
 use alb_mono::{Mono, NoMemory};
 use alb_poly::{Poly, Rules};
 use alb_table::Tables;
+use alb_tidy::tidy;
 use std::alloc::Global;
 
 // The lines as they are. There are fewer than 10^18, since they stand in memory.
@@ -55,25 +56,22 @@ impl Trace {
         Ok(())
     }
 
-    // The lines, that of the polynomial at the end; no lines where the polynomial is zero.
+    // The lines that the polynomial needs, its own at the end; no lines where the polynomial is zero.
     fn into_lines(self, alloc: Global, last: Citation) -> Result<Vec<Line>, NoMemory>
+        requires stands { Stands self last }
         ensures { (fs : List Form) (t : Table) (old : Trace) (f : Poly) → length fs < 10 ^ 18 → Derives fs t old self last f → IfOk result (λ v. AreLinesFor fs t f v.items) }
     {
-        let Citation::Line(k) = last else {
-            return Ok(Vec::new(alloc));
-        };
-        let mut lines = self.lines;
-        if k == lines.len() as u64 {
-            return Ok(lines_in_memory(lines));
+        match last {
+            Citation::Zero => Ok(Vec::new(alloc)),
+            Citation::Line(k) => {
+                let lines = tidy(alloc, &self.lines, k as usize)?;
+                Ok(lines_in_memory(lines))
+            }
         }
-        let mut items = Vec::new(alloc);
-        items.push((1, k))?;
-        lines.push(Line::Sum(items))?;
-        Ok(lines_in_memory(lines))
     }
 }
 
-/// A derivation of the product of two basis elements, less its entry.
+/// A derivation of the product of two basis elements, less its entry. It is tidy, as those of the calls below.
 pub fn derive_entry(
     alloc: Global,
     rules: &Rules,

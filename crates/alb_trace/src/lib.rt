@@ -13,6 +13,7 @@ mod lines;
 mod origins;
 mod products;
 mod proving;
+mod row_key;
 mod sums;
 mod trace;
 

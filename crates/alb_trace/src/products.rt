@@ -30,7 +30,8 @@ impl Trace {
         requires within { IsWithinDegree ground.now.tables.now.target ground.now.tables.now.degree (tree m.now) }
         ensures { IfOk result (λ o. Derives (forms ground.now.rules.now) ground.now.tables.now self.old self.new o (mono_less ground.now.tables.now (tree m.now))) }
     {
-        if let Some(cited) = self.known_monomial(m) {
+        let known = self.known_monomial(ground.alloc, m)?;
+        if let Some(cited) = known {
             return Ok(cited);
         }
         match m {
@@ -167,9 +168,29 @@ impl Trace {
     {
         let t = ground.tables.type_at(b).plus(ground.tables.type_at(c));
         for item in found {
-            self.add_origin_row(ground, sum, item.0, &t, item.1)?;
+            let cited = self.row_line(ground, &t, item.1)?;
+            sum.add(item.0, cited)?;
         }
         Ok(())
+    }
+
+    // The line of the row of a kept instance, none where it is zero.
+    #[cycle(derive)]
+    fn row_line(&mut self, ground: &Ground, t: &Multi, k: u32) -> Result<Citation, NoMemory>
+        requires ground { IsGround ground.now }
+        requires trace { IsTrace (forms ground.now.rules.now) ground.now.tables.now self.old }
+        requires product { IsProductType ground.now.tables.now t.now }
+        requires kept { k < length (origins_at ground.now.tables.now.parts t.now) }
+        ensures { IfOk result (λ o. Derives (forms ground.now.rules.now) ground.now.tables.now self.old self.new o (origin_row (forms ground.now.rules.now) ground.now.tables.now t.now k)) }
+    {
+        if let Some(cited) = self.known_row(t, k) {
+            return Ok(cited);
+        }
+        let mut sum = SumBuilder::new(ground.alloc);
+        self.add_origin_row(ground, &mut sum, 1, t, k)?;
+        let cited = self.sum_line(ground.alloc, &sum)?;
+        self.note_row(t, k, cited)?;
+        Ok(cited)
     }
 
     // Adds a multiple of the row of a kept instance.

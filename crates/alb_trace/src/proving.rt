@@ -7,6 +7,7 @@ ghost use Rattle.alb_table.specs.RightTable.{rules_view, AreRules, IsRightFor};
 ghost use Rattle.alb_query.specs.Answer.{IsAnswer, IsOver, NotZero};
 ghost use Rattle.alb_query.specs.Views.{answer_of};
 ghost use Rattle.alb_trace.specs.Proof.{Shows, IsCounterTable, shown, CanBePrinted};
+ghost use Rattle.alb_trace.specs.TidyProof.{IsTidyProof};
 
 use crate::answers::derive;
 use crate::first::first_type;
@@ -70,6 +71,8 @@ pub fn prove(
     // So is what shows it.
     ensures shows { IfOk result (λ r. Shows (forms rules.now) tables.now g.now (answer_of r.0) (shown r.1)) }
     ensures printed { IfOk result (λ r. CanBePrinted tables.now.p (length tables.now.target) r.1) }
+    // Each line but the last is cited by a later one, and no two lines are the same.
+    ensures tidy { IfOk result (λ r. IsTidyProof r.1) }
 {
     match answer(alloc, rules, tables, g)? {
         Reply::Zero => {

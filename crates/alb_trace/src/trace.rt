@@ -1,17 +1,20 @@
 //! What was derived so far.
-ghost use Rattle.std.specs.Prelude.{◌≡◌, List, OnOk, IfSome};
+ghost use Rattle.std.specs.Prelude.{◌≡◌, List, IfOk, IfSome, OnOk};
 ghost use Rattle.indexmap.specs.IndexMap.{get};
 ghost use Rattle.alb_mono.specs.Tree.{tree};
 ghost use Rattle.alb_poly.specs.Instance.{Form};
 ghost use Rattle.alb_deriv.specs.Short.{IsSumOf};
 ghost use Rattle.alb_table.specs.Table.{same_pair, Table, IsTable};
 ghost use Rattle.alb_trace.specs.Adds.{item_of};
+ghost use Rattle.alb_trace.specs.Origins.{origin_row};
 ghost use Rattle.alb_trace.specs.Trace.{lines_of, product_less, mono_less, IsTrace, Derives};
 ghost use Rattle.alb_trace.specs.declared.trace.Trace.{Trace};
 
 use crate::origins::OriginBlock;
+use crate::row_key::RowKey;
 use alb_deriv::Line;
-use alb_mono::{Mono, NoMemory};
+use alb_mono::{Mono, Multi, NoMemory};
+use alb_tidy::MonoKey;
 use indexmap::IndexMap;
 use std::alloc::Global;
 
@@ -24,13 +27,15 @@ pub(crate) enum Citation {
     Line(u64),
 }
 
-// The lines of a derivation so far, and what they derive: how each product of two basis elements less its entry, and each
-// monomial less its value, that was met is cited. The blocks of the kept instances that were opened stand beside them.
+// The lines of a derivation so far, and what they derive: how each product of two basis elements less its entry, each monomial
+// less its value, and each row of a kept instance, that was met is cited. The blocks of the kept instances that were opened
+// stand beside them.
 #[derive(Drop)]
 pub(crate) struct Trace {
     pub lines: Vec<Line>,
     pub products: IndexMap<(u32, u32), Citation>,
-    pub monomials: Vec<(Mono, Citation)>,
+    pub monomials: IndexMap<MonoKey, Citation>,
+    pub rows: IndexMap<RowKey, Citation>,
     pub blocks: Vec<OriginBlock>,
 }
 
@@ -42,7 +47,8 @@ impl Trace {
         Trace {
             lines: Vec::new(alloc),
             products: IndexMap::new(alloc),
-            monomials: Vec::new(alloc),
+            monomials: IndexMap::new(alloc),
+            rows: IndexMap::new(alloc),
             blocks: Vec::new(alloc),
         }
     }
@@ -67,16 +73,21 @@ impl Trace {
     }
 
     // How a monomial less its value is cited, `None` where it was not derived yet.
-    pub(crate) fn known_monomial(&self, m: &Mono) -> Option<Citation>
+    pub(crate) fn known_monomial(
+        &self,
+        alloc: Global,
+        m: &Mono,
+    ) -> Result<Option<Citation>, NoMemory>
         ensures { (fs : List Form) (t : Table) → IsTrace fs t self.now
-            → IfSome result (λ o. IsSumOf t.p fs (lines_of self.now) (item_of o) (mono_less t (tree m.now))) }
+            → IfOk result (λ r. IfSome r (λ o. IsSumOf t.p fs (lines_of self.now) (item_of o) (mono_less t (tree m.now)))) }
     {
-        for known in &self.monomials {
-            if known.0.is_same(m) {
-                return Some(known.1);
-            }
+        let key = MonoKey {
+            mono: m.try_copy(alloc)?,
+        };
+        match self.monomials.get(&key) {
+            None => Ok(None),
+            Some(cited) => Ok(Some(*cited)),
         }
-        None
     }
 
     // Notes how a monomial less its value is cited.
@@ -89,8 +100,41 @@ impl Trace {
         ensures { (fs : List Form) (t : Table) (old : Trace) → Derives fs t old self.old cited (mono_less t (tree m.now))
             → OnOk result (Derives fs t old self.new cited (mono_less t (tree m.now))) }
     {
-        let copy = m.try_copy(alloc)?;
-        self.monomials.push((copy, cited))?;
+        let mono = m.try_copy(alloc)?;
+        self.monomials.insert(MonoKey { mono }, cited)?;
+        Ok(())
+    }
+
+    // How the row of a kept instance of a type is cited, `None` where it was not derived yet.
+    pub(crate) fn known_row(&self, at: &Multi, number: u32) -> Option<Citation>
+        ensures { (fs : List Form) (t : Table) → IsTrace fs t self.now
+            → IfSome result (λ o. IsSumOf t.p fs (lines_of self.now) (item_of o) (origin_row fs t at.now number)) }
+    {
+        let key = RowKey {
+            at: Multi::of(at.counts()),
+            number,
+        };
+        match self.rows.get(&key) {
+            None => None,
+            Some(cited) => Some(*cited),
+        }
+    }
+
+    // Notes how the row of a kept instance of a type is cited.
+    pub(crate) fn note_row(
+        &mut self,
+        at: &Multi,
+        number: u32,
+        cited: Citation,
+    ) -> Result<(), NoMemory>
+        ensures { (fs : List Form) (t : Table) (old : Trace) → Derives fs t old self.old cited (origin_row fs t at.now number)
+            → OnOk result (Derives fs t old self.new cited (origin_row fs t at.now number)) }
+    {
+        let key = RowKey {
+            at: Multi::of(at.counts()),
+            number,
+        };
+        self.rows.insert(key, cited)?;
         Ok(())
     }
 }

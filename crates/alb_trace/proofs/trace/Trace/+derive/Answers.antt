@@ -1,4 +1,4 @@
-use Rattle.std.proofs.Common.{rules, ◌≡◌, ℕ, ◌+◌, ◌-◌, ◌*◌, ◌%◌, ◌<◌, ◌≤◌, ◌∙◌, List, length, get_or, sum, take, ap, sym, subst, arith}
+use Rattle.std.proofs.Common.{rules, Option, IfSome, ◌≡◌, ℕ, ◌+◌, ◌-◌, ◌*◌, ◌%◌, ◌<◌, ◌≤◌, ◌∙◌, List, length, get_or, sum, take, ap, sym, subst, arith}
 use Rattle.std.specs.Prelude.{All}
 use Rattle.std.proofs.lemmas.List.{take_all, length-map}
 use Rattle.alb_poly.proofs.Multilinear.{all_from_each}
@@ -28,6 +28,8 @@ use Rattle.alb_trace.specs.Adds.{item_of, IsLonger}
 use Rattle.alb_trace.specs.Given.{IsProductType, IsValueRow}
 use Rattle.alb_trace.specs.Origins.{product_type, origin_row, origin_instance}
 use Rattle.alb_trace.specs.Trace.{lines_of, product_less, mono_less, image_less, entries_less, Derives, PushesItems}
+use Rattle.alb_deriv.specs.Short.{IsSumOf}
+use Rattle.alb_trace.specs.declared.trace.Citation.{Citation}
 use Rattle.alb_trace.specs.declared.trace.Citation.TheVariants as citations
 use Rattle.alb_trace.proofs.Adds.{longer-sum}
 use Rattle.alb_trace.proofs.FactorLemmas.{within-left, within-right, right-fits}
@@ -42,7 +44,8 @@ use Rattle.alb_trace.proofs.trace.Trace.+derive.Goals as goal
 
 pub monomial_line-returns-in-Some : goal.monomial_line-returns-in-Some
 monomial_line-returns-in-Some t c =
-    derives-known (forms c.args.ground.now.rules.now) c.args.ground.now.tables.now c.args.self.now c.requires.trace c.in-Some.cited (mono_less c.args.ground.now.tables.now (tree c.args.m.now)) (c.in-Some.ensures (forms c.args.ground.now.rules.now) c.args.ground.now.tables.now c.requires.trace)
+    derives-known (forms c.args.ground.now.rules.now) c.args.ground.now.tables.now c.args.self.now c.requires.trace c.in-Some.cited (mono_less c.args.ground.now.tables.now (tree c.args.m.now)) (subst (λ (r : Option Citation). IfSome r (λ o. IsSumOf c.args.ground.now.tables.now.p (forms c.args.ground.now.rules.now) (lines_of c.args.self.now) (item_of o) (mono_less c.args.ground.now.tables.now (tree c.args.m.now)))) c.in-Some.is
+    (c.in_ok-known.ensures (forms c.args.ground.now.rules.now) c.args.ground.now.tables.now c.requires.trace))
 
 pub monomial_line-returns-in-Gen : goal.monomial_line-returns-in-Gen
 monomial_line-returns-in-Gen t c =
@@ -213,8 +216,8 @@ add_products_of_part-returns t c =
 pub add_recipe-loop-item-init : goal.add_recipe-loop-item-init
 add_recipe-loop-item-init t c = pushes-nothing (forms c.args.ground.now.rules.now) c.args.ground.now.tables.now c.args.self.now c.args.sum.now.items.items c.requires.trace
 
-pub add_recipe-add_origin_row-requires : goal.add_recipe-add_origin_row-requires
-add_recipe-add_origin_row-requires t c =
+pub add_recipe-row_line-requires : goal.add_recipe-row_line-requires
+add_recipe-row_line-requires t c =
     let e : c.plus-t.result ≡ product_type c.args.ground.now.tables.now (c.args.b, c.args.c) = search rules in
     let x = type_shape c.args.ground.now.tables.now c.args.b c.requires.ground.right.table c.requires.product.left in
     let y = type_shape c.args.ground.now.tables.now c.args.c c.requires.ground.right.table c.requires.product.right in
@@ -226,11 +229,8 @@ add_recipe-add_origin_row-requires t c =
         (
           c.loop-item.invariant.trace,
           (
-            c.requires.recipe.residues c.loop-item.item-index (0, 0) c.loop-item-test.true,
-            (
-              subst (IsProductType c.args.ground.now.tables.now) (sym e) c.requires.product.type,
-              subst (λ (w : List ℕ). (get_or c.args.found.now c.loop-item.item-index (0, 0)).1 < length (origins_at c.args.ground.now.tables.now.parts w)) (sym e) (c.requires.recipe.below c.loop-item.item-index (0, 0) c.loop-item-test.true),
-            ),
+            subst (IsProductType c.args.ground.now.tables.now) (sym e) c.requires.product.type,
+            subst (λ (w : List ℕ). (get_or c.args.found.now c.loop-item.item-index (0, 0)).1 < length (origins_at c.args.ground.now.tables.now.parts w)) (sym e) (c.requires.recipe.below c.loop-item.item-index (0, 0) c.loop-item-test.true),
           ),
         ),
       ),
@@ -238,8 +238,12 @@ add_recipe-add_origin_row-requires t c =
 
 pub add_recipe-loop-item-preserved : goal.add_recipe-loop-item-preserved
 add_recipe-loop-item-preserved t c =
-    pushes-term (forms c.args.ground.now.rules.now) c.args.ground.now.tables.now c.args.self.now c.loop-item.self c.add_origin_row.new.self c.args.sum.now.items.items c.loop-item.sum.items.items c.add_origin_row.new.sum.items.items
-    (origin_row (forms c.args.ground.now.rules.now) c.args.ground.now.tables.now c.plus-t.result) c.args.found.now c.loop-item.item-index (0, 0) c.loop-item-test.true c.loop-item.invariant c.in_ok-add_origin_row.ensures
+    let item : ℕ × ℕ = get_or c.args.found.now c.loop-item.item-index (0, 0) in
+    let f = origin_row (forms c.args.ground.now.rules.now) c.args.ground.now.tables.now c.plus-t.result item.1 in
+    let i = subst (λ (xs : List (ℕ × ℕ)). PushesItems (forms c.args.ground.now.rules.now) c.args.ground.now.tables.now c.loop-item.self c.row_line.new.self c.loop-item.sum.items.items xs (scale item.0 f)) (sym {A = List (ℕ × ℕ)} c.in_ok-add.ensures)
+    (pushes-item (forms c.args.ground.now.rules.now) c.args.ground.now.tables.now c.loop-item.self c.row_line.new.self c.loop-item.sum.items.items c.in_ok-cited.cited item.0 f (c.requires.recipe.residues c.loop-item.item-index (0, 0) c.loop-item-test.true) c.in_ok-cited.ensures) in
+    pushes-term (forms c.args.ground.now.rules.now) c.args.ground.now.tables.now c.args.self.now c.loop-item.self c.row_line.new.self c.args.sum.now.items.items c.loop-item.sum.items.items c.add.new.self.items.items
+    (origin_row (forms c.args.ground.now.rules.now) c.args.ground.now.tables.now c.plus-t.result) c.args.found.now c.loop-item.item-index (0, 0) c.loop-item-test.true c.loop-item.invariant i
 
 pub add_recipe-returns : goal.add_recipe-returns
 add_recipe-returns t c =
@@ -248,6 +252,28 @@ add_recipe-returns t c =
     let p = subst (λ (w : List ℕ). PushesItems (forms c.args.ground.now.rules.now) c.args.ground.now.tables.now c.args.self.now c.loop-item.self c.args.sum.now.items.items c.loop-item.sum.items.items (spread (origin_row (forms c.args.ground.now.rules.now) c.args.ground.now.tables.now w) (take c.loop-item.item-index c.args.found.now))) e c.loop-item.invariant in
     let q = subst (λ (xs : List (ℕ × ℕ)). PushesItems (forms c.args.ground.now.rules.now) c.args.ground.now.tables.now c.args.self.now c.loop-item.self c.args.sum.now.items.items c.loop-item.sum.items.items (spread (origin_row (forms c.args.ground.now.rules.now) c.args.ground.now.tables.now (product_type c.args.ground.now.tables.now (c.args.b, c.args.c))) xs)) f p in
     pushes-alike (forms c.args.ground.now.rules.now) c.args.ground.now.tables.now (turned (alike_poly c.requires.recipe.gives)) q
+
+-- ---- row_line
+
+pub row_line-returns-in-Some : goal.row_line-returns-in-Some
+row_line-returns-in-Some t c =
+    derives-known (forms c.args.ground.now.rules.now) c.args.ground.now.tables.now c.args.self.now c.requires.trace c.in-Some.cited (origin_row (forms c.args.ground.now.rules.now) c.args.ground.now.tables.now c.args.t.now c.args.k) (c.in-Some.ensures (forms c.args.ground.now.rules.now) c.args.ground.now.tables.now c.requires.trace)
+
+pub row_line-add_origin_row-requires : goal.row_line-add_origin_row-requires
+row_line-add_origin_row-requires t c =
+    (search rules, (c.requires.ground, (c.requires.trace, (above_one c.args.ground.now.tables.now c.requires.ground.right.table, (c.requires.product, c.requires.kept)))))
+
+pub row_line-returns : goal.row_line-returns
+row_line-returns t c =
+    let f = origin_row (forms c.args.ground.now.rules.now) c.args.ground.now.tables.now c.args.t.now c.args.k in
+    let before : List (ℕ × ℕ) = c.new-sum.result.items.items in
+    let after : List (ℕ × ℕ) = c.add_origin_row.new.sum.items.items in
+    let p : PushesItems (forms c.args.ground.now.rules.now) c.args.ground.now.tables.now c.args.self.now c.add_origin_row.new.self before after f = pushes-alike (forms c.args.ground.now.rules.now) c.args.ground.now.tables.now (scale-one f) c.in_ok-add_origin_row.ensures in
+    let d = c.in_ok-cited.ensures.derives (forms c.args.ground.now.rules.now) c.args.ground.now.tables.now f p.trace
+    (pushes-residues (forms c.args.ground.now.rules.now) c.args.ground.now.tables.now c.args.self.now c.add_origin_row.new.self before after f c.new-sum.ensures p)
+    (pushes-sum (forms c.args.ground.now.rules.now) c.args.ground.now.tables.now c.args.self.now c.add_origin_row.new.self before after f c.new-sum.ensures p) in
+    c.in_ok-note_row.ensures (forms c.args.ground.now.rules.now) c.args.ground.now.tables.now c.args.self.now
+    (derives-joined (forms c.args.ground.now.rules.now) c.args.ground.now.tables.now c.args.self.now c.add_origin_row.new.self c.sum_line.new.self c.in_ok-cited.cited f p.longer d)
 
 -- ---- add_origin_row
 

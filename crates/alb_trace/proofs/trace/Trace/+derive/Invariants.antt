@@ -11,22 +11,25 @@ use Rattle.alb_trace.specs.Trace.{product_less, image_less, PushesItems}
 use Rattle.alb_trace.proofs.trace.Trace.+derive.Given as goal
 
 abbrev pub decreases-monomial_line : goal.decreases-monomial_line
-decreases-monomial_line l = 10 * degree (tree l.m.now) + 9
+decreases-monomial_line l = 10 * degree (tree l.m.now) + 10
 
 abbrev pub decreases-add_factor_differences : goal.decreases-add_factor_differences
 decreases-add_factor_differences l = 10 * (degree (tree l.l.now) + degree (tree l.r.now)) + 2
 
 abbrev pub decreases-add_part_products : goal.decreases-add_part_products
-decreases-add_part_products l = 10 * (degree (tree l.l.now) + degree (tree l.r.now)) + 8
+decreases-add_part_products l = 10 * (degree (tree l.l.now) + degree (tree l.r.now)) + 9
 
 abbrev pub decreases-add_products_of_part : goal.decreases-add_products_of_part
-decreases-add_products_of_part l = 10 * (sum (type_at l.ground.now.tables.now.parts l.part.0) + degree (tree l.r.now)) + 7
+decreases-add_products_of_part l = 10 * (sum (type_at l.ground.now.tables.now.parts l.part.0) + degree (tree l.r.now)) + 8
 
 abbrev pub decreases-product_line : goal.decreases-product_line
-decreases-product_line l = 10 * (sum (type_at l.ground.now.tables.now.parts l.b) + sum (type_at l.ground.now.tables.now.parts l.c)) + 6
+decreases-product_line l = 10 * (sum (type_at l.ground.now.tables.now.parts l.b) + sum (type_at l.ground.now.tables.now.parts l.c)) + 7
 
 abbrev pub decreases-add_recipe : goal.decreases-add_recipe
-decreases-add_recipe l = 10 * (sum (type_at l.ground.now.tables.now.parts l.b) + sum (type_at l.ground.now.tables.now.parts l.c)) + 5
+decreases-add_recipe l = 10 * (sum (type_at l.ground.now.tables.now.parts l.b) + sum (type_at l.ground.now.tables.now.parts l.c)) + 6
+
+abbrev pub decreases-row_line : goal.decreases-row_line
+decreases-row_line l = 10 * sum l.t.now + 5
 
 abbrev pub decreases-add_origin_row : goal.decreases-add_origin_row
 decreases-add_origin_row l = 10 * sum l.t.now + 4

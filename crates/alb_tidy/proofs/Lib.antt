@@ -1,0 +1,11 @@
+pub mod Citing
+pub mod Whole
+pub mod Mirror
+pub mod Numbered
+pub mod Kept
+pub mod KeptFine
+pub mod Printing
+pub mod Marking
+pub mod MarkLemmas
+pub mod LedgerLemmas
+pub mod Tidying

@@ -1,0 +1,14 @@
+//! Tidy derivations: no line is idle, and none stands twice.
+#![tactic(auto)]
+
+mod copy;
+mod keeping;
+mod key;
+mod ledger;
+mod marks;
+mod mono_key;
+
+pub use keeping::tidy;
+pub use key::LineKey;
+pub use ledger::Ledger;
+pub use mono_key::MonoKey;
