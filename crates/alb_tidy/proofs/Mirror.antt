@@ -1,4 +1,4 @@
--- A line with new numbers, behind lines that have the polynomials of what it cites.
+-- A line with new numbers, after lines that have the polynomials of what it cites.
 use Rattle.std.proofs.Common.{◌≡◌, ℕ, ◌+◌, ◌-◌, ◌%◌, ◌<◌, ◌≤◌, Bool, true, false, not, ◌&&◌, List, [], ◌∷◌, ◌++◌, map, length, refl, sym, ap, ◌∙◌, subst, arith, inl, inr, None, eqb-true, eq-eqb}
 use Rattle.std.specs.Bool.{◌==◌}
 use Rattle.std.specs.List.{flat_map, list_any}

@@ -57,7 +57,7 @@ length-more {old} {new} {l} s = elim s.lines [
   | inr e ↦ omega (arith, ap length e, length-append old (l ∷ []))
 ]
 
--- where a line was put behind the others, its number is the last one
+-- where a line was put after the others, its number is the last one
 pub number-last : {old new : List Line} {l : Line} {n : ℕ} → Numbers old new l n → new ≡ old ++ l ∷ [] → n ≡ length old + 1
 number-last {old} {new} {l} {n} s e =
     let c : length new ≡ length old + 1 = ap length e ∙ length-append old (l ∷ []) in
@@ -86,7 +86,7 @@ module _ (p most : ℕ) (target : List ℕ) (fs : List Form) where
       ap (value_of fs M) (sym m) ∙ value-again fs M (n - 1) (length old) o (omega (arith, w.above, w.among)) (omega (arith, c)) (e ∙ sym (at-end old l)) in
       record { place = record { above = w.above; among = w.among }; same = poly_alike (joined (itself' _ _ v) (alike_poly a.line.same)) }
 
-  -- A line that stands among the others already has the polynomial that it would have behind them.
+  -- A line that stands among the others already has the polynomial that it would have after them.
   pub numbered-fine : (old new : List Line) (l : Line) (n : ℕ) (f : Poly) → Numbers old new l n → AreFine p most target fs old → Appends p most target fs old l f → HasNumbered p most target fs new n f
   numbered-fine old new l n f s h a = elim s.lines [
     | inr e ↦ (let w : IsNumber (length (old ++ l ∷ [])) n = subst (λ xs. IsNumber (length xs) n) e s.number in

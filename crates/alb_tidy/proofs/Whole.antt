@@ -74,6 +74,6 @@ module _ (p : ℕ) (target : List ℕ) (fs : List Form) where
   fault-at gs (x ∷ ls) zero h l = h.0
   fault-at gs (x ∷ ls) (suc k) h l = fault-at (gs ++ line_value fs gs x ∷ []) ls k h.1 (omega arith)
 
-  -- a line has no fault behind those before it
+  -- a line has no fault after those before it
   pub fault-before : (ls : List Line) (k : ℕ) → AreSound p target fs [] ls → k < length ls → fault p target fs (line_values fs [] (take k ls)) (line_at ls k) ≡ None
   fault-before ls k h l = fault-at [] ls k h l

@@ -11,7 +11,7 @@ use Rattle.alb_tidy.specs.declared.ledger.Ledger.{Ledger}
 abbrev pub lines_in : Ledger → List Line
 lines_in s = map (λ (k : LineKey). k.line) s.set.keys
 
--- the lines `new` are `old`, with `entry` behind them where it does not stand among them; there it has the number `n`
+-- the lines `new` are `old`, with `entry` after them where it does not stand among them; there it has the number `n`
 pub record IsNumbered (old new : List Line) (entry : Line) (n : ℕ) : Type 0 where
   pub lines : (new ≡ old) ⊎ (new ≡ old ++ entry ∷ [])
   pub number : IsNumber (length new) n

@@ -27,7 +27,7 @@ impl Ledger {
         }
     }
 
-    /// The number of a line. It is put behind the others where it does not stand among them.
+    /// The number of a line. It is put after the others where it does not stand among them.
     pub fn number(&mut self, entry: Line) -> Result<u64, NoMemory>
         ensures { IfOk result (λ n. IsNumbered (lines_in self.old) (lines_in self.new) entry n) }
     {

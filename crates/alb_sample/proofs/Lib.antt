@@ -1,0 +1,9 @@
+pub mod ProblemLemmas
+pub mod ChoiceLemmas
+pub mod ConsequenceLemmas
+pub mod ElementLemmas
+pub mod ValueLemmas
+pub mod ParityLemmas
+pub mod TallyLemmas
+pub mod CodeLemmas
+pub mod PolyLemmas
