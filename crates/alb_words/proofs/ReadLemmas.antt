@@ -48,7 +48,7 @@ pub all-values : (f : Found) (id : List ℕ) → option_map raw_values (matched_
 all-values f id =
     sym (ap (option_map (λ (r : Row). r.values)) (found-row f.entries.items id) ∙ all-of (find (λ (e : Entry). bytes_eq e.0.now id) f.entries.items))
 
--- an error that is not want of memory has a kind among those of the words
+-- an error that does not say that memory ran out has a kind among those of the words
 pub faulty : (kinds : Kinds) (e : Error) → HasKind kinds e → (kind_of e ≡ kind.OutOfMemory → ⊥) → is_empty kinds ≡ false
 faulty [] e (inl m) n = absurd (n m)
 faulty [] e (inr h) n = absurd h
