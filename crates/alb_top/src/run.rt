@@ -51,11 +51,13 @@ fn run_script<S: Source, K: Sink>(
     let mut script = first;
     'turns: loop {
         match take_turn(alloc, reader, script, input) {
-            Taken::Response(response, next) => match write_response(output, &next, &response) {
+            Taken::Response(response, next) => match write_response(
+                alloc, output, &next, &response,
+            ) {
                 Ok(()) => script = next,
                 Err(_) => return Status::WriteFault,
             },
-            Taken::Last(response, next) => match write_response(output, &next, &response) {
+            Taken::Last(response, next) => match write_response(alloc, output, &next, &response) {
                 Ok(()) => return status(next.is_clean()),
                 Err(_) => return Status::WriteFault,
             },

@@ -1,5 +1,5 @@
 //! The lines of responses.
-ghost use Rattle.std.specs.Prelude.{◌≡◌, length};
+ghost use Rattle.std.specs.Prelude.{◌≡◌, length, IfOk};
 ghost use Rattle.alb_io.specs.Writes.{Writes};
 ghost use Rattle.alb_top.specs.Script.{shot_text, found_text, text_of};
 ghost use Rattle.alb_question.specs.Views.{finding_of};
@@ -7,11 +7,12 @@ ghost use Rattle.alb_top.specs.View.{response_of, state, IsScript, IsWritable, H
 
 use crate::response::Response;
 use crate::script::Script;
-use alb_io::{Sink, WriteFault, put_all};
+use alb_io::{MemSink, Sink, WriteFault, put_all};
 use alb_judge::write_verdict;
 use alb_mono::Letters;
 use alb_question::{Finding, write_finding, write_topic};
 use alb_script::{write_numbered, write_refusal};
+use std::alloc::Global;
 
 // Writes the line of the table that was built.
 fn write_built<K: Sink>(sink: &mut K, script: &Script) -> Result<(), WriteFault>
@@ -36,8 +37,8 @@ fn write_found<K: Sink>(sink: &mut K, script: &Script, finding: &Finding) -> Res
     }
 }
 
-/// Writes a response of a script. No refusal prints by the generators' letters.
-pub fn write_response<K: Sink>(
+// Writes a response piece by piece. No refusal prints by the generators' letters.
+fn write_pieces<K: Sink>(
     sink: &mut K,
     script: &Script,
     response: &Response,
@@ -55,5 +56,33 @@ pub fn write_response<K: Sink>(
         Response::Found(finding) => write_found(sink, script, finding),
         Response::Refused(refusal) => write_refusal(sink, &Letters::all(), refusal),
         Response::Judged(verdict) => write_verdict(sink, verdict),
+    }
+}
+
+// The text of a response. There may be no memory for it.
+fn text(alloc: Global, script: &Script, response: &Response) -> Result<MemSink, WriteFault>
+    requires script { IsScript script.now }
+    requires writable { IsWritable (state script.now) response.now }
+    ensures { IfOk result (λ t. t.taken ≡ text_of (state script.now) (response_of response.now)) }
+{
+    let mut sink = MemSink::new(alloc, usize::MAX, Vec::new(alloc));
+    write_pieces(&mut sink, script, response)?;
+    Ok(sink)
+}
+
+/// Writes a response of a script: its whole text at once, or piece by piece where there is no memory for the whole.
+pub fn write_response<K: Sink>(
+    alloc: Global,
+    sink: &mut K,
+    script: &Script,
+    response: &Response,
+) -> Result<(), WriteFault>
+    requires script { IsScript script.now }
+    requires writable { IsWritable (state script.now) response.now }
+    ensures { Writes K.Sink sink.old sink.new (text_of (state script.now) (response_of response.now)) result }
+{
+    match text(alloc, script, response) {
+        Ok(whole) => put_all(sink, whole.bytes()),
+        Err(WriteFault) => write_pieces(sink, script, response),
     }
 }
