@@ -36,6 +36,7 @@ opening-sound s is h = subst (λ (t : State). IsSoundState t) (sym is) (sound-st
 pub check-mode : (m : Mode) (f : Form) → script_form m ≡ Some f → f ≡ form.Check → m ≡ mode.Check
 check-mode mode.Check f is h = refl
 check-mode mode.Batch f is h = absurd (let e : Some form.Batch ≡ Some form.Check = is ∙ ap (λ (x : Form). Some x) h in cc)
+check-mode (mode.Sample n) f is h = absurd (cc)
 
 -- ---- questions
 

@@ -12,6 +12,8 @@ use crate::script::Script;
 use crate::turn::{Taken, take_turn};
 use crate::write::write_response;
 use alb_io::{Desk, LineReader, Sink, Source, Status};
+use alb_sampling::run_sample;
+use alb_words::{WordsFault, read_words};
 use std::alloc::Global;
 use std::thread::Threads;
 
@@ -71,7 +73,7 @@ fn run_script<S: Source, K: Sink>(
     }
 }
 
-// Does what a mode does: it reads and answers its script.
+// Does what a mode does: it reads and answers its script, or makes a sample.
 fn run_mode<S: Source, K: Sink>(alloc: Global, mode: Mode, input: &mut S, output: &mut K) -> Status
     ensures outcome { Does (Some mode) result (S.left input.old) (S.left input.new) (K.taken output.old) (K.taken output.new) }
     ensures read_fault { result ≡ Status.ReadFault → Rose (S.faults input.old) (S.faults input.new) }
@@ -82,6 +84,9 @@ fn run_mode<S: Source, K: Sink>(alloc: Global, mode: Mode, input: &mut S, output
     ensures no_open_fault { result ≢ Status.OpenFault }
     ensures no_report_fault { result ≢ Status.ReportFault }
 {
+    if let Mode::Sample(count) = mode {
+        return run_sample(alloc, count, output);
+    }
     let Some(form) = mode.script_form() else {
         unreachable!();
     };
@@ -101,8 +106,8 @@ pub fn run_albert<R: Threads, D: Desk, S: Source, K: Sink>(
     input: &mut S,
     output: &mut K,
 ) -> Status
-    // The words name no mode.
-    ensures usage { (result ≡ Status.Usage) ↔ (mode_of words.now ≡ None) }
+    // The words name no mode, unless memory runs out while they are read.
+    ensures usage { result ≢ Status.NoMemory → (result ≡ Status.Usage) ↔ (mode_of words.now ≡ None) }
     ensures outcome { Does (mode_of words.now) result (S.left input.old) (S.left input.new) (K.taken output.old) (K.taken output.new) }
     ensures read_fault { result ≡ Status.ReadFault → Rose (S.faults input.old) (S.faults input.new) }
     ensures write_fault { result ≡ Status.WriteFault → Rose (K.faults output.old) (K.faults output.new) }
@@ -115,7 +120,12 @@ pub fn run_albert<R: Threads, D: Desk, S: Source, K: Sink>(
 {
     let _rt = rt;
     let _desk = desk;
-    let Some(mode) = Mode::of(words) else {
+    let said = match read_words(alloc, words) {
+        Ok(said) => said,
+        Err(WordsFault::NoMemory) => return Status::NoMemory,
+        Err(WordsFault::Usage) => return Status::Usage,
+    };
+    let Some(mode) = Mode::of(&said.others) else {
         return Status::Usage;
     };
     run_mode(alloc, mode, input, output)

@@ -1,5 +1,5 @@
 //! A script as far as it was read, and what its commands make of it.
-ghost use Rattle.std.specs.Prelude.{◌≡◌, ◌≤◌, IfOk, IfErr, IfSome, IfNone, Some, None, true, false, length, sum};
+ghost use Rattle.std.specs.Prelude.{◌≡◌, ◌≢◌, ◌≤◌, IfOk, IfErr, IfSome, IfNone, Some, None, true, false, length, sum};
 ghost use Rattle.alb_problem.specs.Problem.{IsAccepted};
 ghost use Rattle.alb_problem.specs.Builder.{IsSoundProblem};
 ghost use Rattle.alb_script.specs.Asked.{asked, view, command_word, or_error, Gives, IsCommandOver, IsPlain, Build, Quit};
@@ -34,12 +34,14 @@ pub enum Stage {
 
 // What stands after the end of an accepted problem, and the response: a batch builds its table.
 fn begin(alloc: Global, mode: Mode, problem: Problem) -> Result<(Response, Stage), NoMemory>
-    requires { IsAccepted problem }
+    requires accepted { IsAccepted problem }
+    requires reads { script_form mode ≢ None }
     ensures { IfOk result (λ r. Begins mode problem r.0 r.1) }
 {
     match mode {
         Mode::Batch => Ok((Response::Built, Stage::Asking(build_topic(alloc, problem)?))),
         Mode::Check => Ok((Response::Ready, Stage::Claiming(problem))),
+        Mode::Sample(_) => unreachable!(),
     }
 }
 
