@@ -62,3 +62,28 @@ pub fn answer_question(
         Question::Products => Ok(Finding::OfProducts),
     }
 }
+
+impl Topic {
+    ghost use Rattle.alb_question.specs.Views.{shot_of};
+
+    /// Answers a question about the topic by its table, and keeps what was derived.
+    pub fn answer(&mut self, alloc: Global, question: &Question) -> Result<Finding, NoMemory>
+        requires topic { IsTopic self.old }
+        requires over { IsQuestionOver self.old.tables.p (length self.old.tables.target) (question_of question.now) }
+        // What is found is that of the definition, and can be printed with a letter for each generator.
+        ensures finding { IfOk result (λ f. IsFinding (rules_view self.old.problem.rules) self.old.tables (question_of question.now) (finding_of f)) }
+        ensures printable { IfOk result (λ f. IsPrintable self.old.tables.p (length self.old.tables.target) f) }
+        // The problem, its table and the end of its building stay as they are.
+        ensures same_problem { self.new.problem ≡ self.old.problem }
+        ensures same_shot { shot_of self.new ≡ shot_of self.old }
+        ensures topic { OnOk result (IsTopic self.new) }
+    {
+        answer_question(
+            alloc,
+            &self.problem.rules,
+            &self.tables,
+            &mut self.deriver,
+            question,
+        )
+    }
+}

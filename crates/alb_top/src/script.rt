@@ -257,12 +257,25 @@ impl Script {
         ensures writable { IfOk result (λ r. IsWritable (state r.1) r.0) }
         ensures script { IfOk result (λ r. IsScript r.1) }
     {
-        let Stage::Asking(topic) = &self.stage else {
+        let Script {
+            mode,
+            form,
+            stage,
+            closed,
+            clean,
+        } = self;
+        let Stage::Asking(topic) = stage else {
             unreachable!();
         };
-        let question = question_in(command);
-        let finding = answer_question(alloc, &topic.problem.rules, &topic.tables, &question)?;
-        Ok((Response::Found(finding), self))
+        let (finding, topic) = answer_about(alloc, topic, command)?;
+        let next = Script {
+            mode,
+            form,
+            stage: Stage::Asking(topic),
+            closed,
+            clean,
+        };
+        Ok((Response::Found(finding), next))
     }
 
     // The script after its end.
