@@ -85,6 +85,12 @@ pub script-topic : (s : Script) (t : Topic) → s.stage ≡ stage.Asking t → I
 script-topic s t is h =
     let u : IsStage s.mode (stage.Asking t) = subst (λ (u : Stage). IsStage s.mode u) is h.stage in u.1
 
+-- a topic that has answered a question stands for the same state
+pub answered-state : (s : Script) (t u : Topic) → s.stage ≡ stage.Asking t → u.problem ≡ t.problem → shot_of u ≡ shot_of t → state_at s.mode s.form (stage.Asking u) s.closed s.clean ≡ state s
+answered-state s t u is same shot =
+    ap₂ (λ (q : Problem) (x : Shot). record (state_at s.mode s.form (stage.Asking u) s.closed s.clean) { problem = problem q; shot = Some x }) same shot
+    ∙ ap (λ (v : Stage). state_at s.mode s.form v s.closed s.clean) (sym is)
+
 -- ---- the end of a problem
 
 begun : (m : Mode) (f : Form) (b : Builder) (closed clean : Bool) (q : Problem) (r : Rust.Response) (u : Stage) → problem q ≡ b → IsAccepted q → Begins m q r u

@@ -16,7 +16,7 @@ use crate::statement::state_problem;
 use alb_judge::Verdict;
 use alb_mono::{Letters, NoMemory};
 use alb_problem::{FinishError, Problem, ProblemBuilder};
-use alb_question::{Topic, answer_question, build_topic};
+use alb_question::{Topic, build_topic};
 use alb_script::{BadCommand, Command, Form, Refusal, ScriptPlace, read_line};
 use gf_field::Field;
 use std::alloc::Global;
@@ -264,10 +264,11 @@ impl Script {
             closed,
             clean,
         } = self;
-        let Stage::Asking(topic) = stage else {
+        let Stage::Asking(mut topic) = stage else {
             unreachable!();
         };
-        let (finding, topic) = answer_about(alloc, topic, command)?;
+        let question = question_in(command);
+        let finding = topic.answer(alloc, &question)?;
         let next = Script {
             mode,
             form,
