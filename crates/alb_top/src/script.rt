@@ -16,7 +16,7 @@ use crate::statement::state_problem;
 use alb_judge::Verdict;
 use alb_mono::{Letters, NoMemory};
 use alb_problem::{FinishError, Problem, ProblemBuilder};
-use alb_question::{Topic, answer_question, build_topic};
+use alb_question::{Topic, build_topic};
 use alb_script::{BadCommand, Command, Form, Refusal, ScriptPlace, read_line};
 use gf_field::Field;
 use std::alloc::Global;
@@ -259,12 +259,26 @@ impl Script {
         ensures writable { IfOk result (λ r. IsWritable (state r.1) r.0) }
         ensures script { IfOk result (λ r. IsScript r.1) }
     {
-        let Stage::Asking(topic) = &self.stage else {
+        let Script {
+            mode,
+            form,
+            stage,
+            closed,
+            clean,
+        } = self;
+        let Stage::Asking(mut topic) = stage else {
             unreachable!();
         };
         let question = question_in(command);
-        let finding = answer_question(alloc, &topic.problem.rules, &topic.tables, &question)?;
-        Ok((Response::Found(finding), self))
+        let finding = topic.answer(alloc, &question)?;
+        let next = Script {
+            mode,
+            form,
+            stage: Stage::Asking(topic),
+            closed,
+            clean,
+        };
+        Ok((Response::Found(finding), next))
     }
 
     // The script after its end.
