@@ -1,4 +1,4 @@
-ghost use Rattle.std.specs.Prelude.{◌≡◌, IfOk, OnOk, length};
+ghost use Rattle.std.specs.Prelude.{◌≡◌, ◌<◌, ◌≤◌, IfOk, OnOk, length};
 ghost use Rattle.alb_problem.specs.Problem.{IsAccepted};
 ghost use Rattle.alb_table.specs.RightTable.{rules_view, AreRules, IsRightFor};
 ghost use Rattle.alb_trace.specs.Deriver.{IsDeriverFor};
@@ -8,22 +8,32 @@ ghost use Rattle.alb_question.specs.Views.{question_of, finding_of, IsQuestionOv
 use crate::finding::Finding;
 use crate::question::Question;
 use crate::topic::Topic;
-use alb_build::{Built, build_all};
+use alb_build::Built;
 use alb_mono::NoMemory;
 use alb_poly::Rules;
+use alb_pool::build_with;
 use alb_problem::Problem;
 use alb_query::answer;
 use alb_table::Tables;
 use alb_trace::Deriver;
 use std::alloc::Global;
+use std::thread::Threads;
 
-/// Builds the table of an accepted problem, degree by degree, to the last degree of the problem or to the first limit.
-pub fn build_topic(alloc: Global, problem: Problem) -> Result<Topic, NoMemory>
-    requires { IsAccepted problem }
+/// Builds the table of an accepted problem, degree by degree, to the last degree of the problem or to the first limit, by 1 to 16
+/// workers, each in a thread of its own where one can be made.
+pub fn build_topic<R: Threads + Sync>(
+    rt: &R,
+    alloc: Global,
+    workers: u32,
+    problem: Problem,
+) -> Result<Topic, NoMemory>
+    requires accepted { IsAccepted problem }
+    requires some_worker { 0 < workers }
+    requires few_workers { workers ≤ 16 }
     ensures topic { IfOk result (λ t. IsTopic t) }
     ensures same_problem { IfOk result (λ t. t.problem ≡ problem) }
 {
-    let Built { tables, end } = build_all(alloc, &problem.rules)?;
+    let Built { tables, end } = build_with(rt, alloc, &problem.rules, workers)?;
     Ok(Topic {
         problem,
         tables,
