@@ -1,8 +1,8 @@
 -- Whether two lines are one, and that this test tells lines apart. The laws of `Eq` and `Hash` cite it.
-use Rattle.std.specs.Prelude.{◌≡◌, ℕ, ◌&&◌, ◌==◌, Bool, true, false, List, [], ◌++◌}
+use Rattle.std.specs.Prelude.{◌≡◌, ℕ, ◌&&◌, ◌==◌, Bool, true, false, List, ◌++◌}
 use Rattle.std.specs.Bool.{Decides}
 use Rattle.std.specs.List.{flat_map}
-use Rattle.std.specs.Cmp.{IsEquivalence, decided, on_equiv, first_so, second_so}
+use Rattle.std.specs.Cmp.{IsEquivalence, decided, first_so, second_so}
 use Rattle.std.specs.Cmp.Lexicographic.{pointwise, pointwise_decides}
 use Rattle.std.specs.Hash as fed
 use Rattle.std.proofs.Common.{true≢false, refl, sym, ap, subst, eqb-true, eq-eqb}
