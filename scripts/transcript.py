@@ -6,6 +6,7 @@ Scripts and answers are bytes here, as the program reads and writes them.
 import collections
 import re
 
+# The forms that read a script.
 FORMS = ("batch", "check")
 LONGEST = 65536
 WORD = re.compile(rb"[^ \t\r]+")

@@ -6,7 +6,7 @@ use std::thread::Threads;
 const PROBLEM: &[u8] = b"identity (x,x,y)\ngenerators 2a1b\nbuild\n";
 
 // What a batch prints as evidence about a polynomial.
-fn evidence<R: Threads>(rt: &R, alloc: Global, polynomial: &[u8]) -> Result<Vec<u8>, Fail> {
+fn evidence<R: Threads + Sync>(rt: &R, alloc: Global, polynomial: &[u8]) -> Result<Vec<u8>, Fail> {
     let script = joined(alloc, &[PROBLEM, b"prove ", polynomial, b"\n"])?;
     let run = run(rt, alloc, "batch", &script, 4096, None)?;
     // three statements and the answer stand before
@@ -15,7 +15,7 @@ fn evidence<R: Threads>(rt: &R, alloc: Global, polynomial: &[u8]) -> Result<Vec<
 }
 
 // Whether a check answers so to a claim with this evidence.
-fn is_judged<R: Threads>(
+fn is_judged<R: Threads + Sync>(
     rt: &R,
     alloc: Global,
     polynomial: &[u8],
@@ -56,7 +56,12 @@ fn with_byte(alloc: Global, block: &[u8], at: usize, byte: u8) -> Result<Vec<u8>
 }
 
 // Whether the evidence of (a,a,b) is rejected with each other digit at this place, if a digit stands there.
-fn is_needed<R: Threads>(rt: &R, alloc: Global, block: &[u8], at: usize) -> Result<bool, Fail> {
+fn is_needed<R: Threads + Sync>(
+    rt: &R,
+    alloc: Global,
+    block: &[u8],
+    at: usize,
+) -> Result<bool, Fail> {
     let byte = block.get(at).copied().unwrap_or(b' ');
     if !byte.is_ascii_digit() {
         return Ok(true);

@@ -53,7 +53,12 @@ fn answers<'a>(taken: &[u8], text: &'a [u8], needed: &[usize]) -> &'a [u8] {
 }
 
 // Whether a run, in pieces of one byte, ends at the failing take with the answers to the lines that were taken before.
-fn stops_at_take<R: Threads>(rt: &R, alloc: Global, row: &Row, at: usize) -> Result<bool, Fail> {
+fn stops_at_take<R: Threads + Sync>(
+    rt: &R,
+    alloc: Global,
+    row: &Row,
+    at: usize,
+) -> Result<bool, Fail> {
     let (words, script, text, needed) = row;
     let Some(taken) = script.get(..at) else {
         return Ok(false);
@@ -86,7 +91,12 @@ fn the_fourth_take_fails(rt: HostRuntime) -> Result<(), Fail> {
 }
 
 // Whether a run, in pieces of one byte, ends at the failing put with the bytes that were put before.
-fn stops_at_put<R: Threads>(rt: &R, alloc: Global, row: &Row, at: usize) -> Result<bool, Fail> {
+fn stops_at_put<R: Threads + Sync>(
+    rt: &R,
+    alloc: Global,
+    row: &Row,
+    at: usize,
+) -> Result<bool, Fail> {
     let (words, script, text, _) = row;
     let Some(put) = text.get(..at) else {
         return Ok(false);

@@ -52,7 +52,7 @@ fn failing(alloc: Global, call: Option<Call>) -> Result<(Vec<u64>, Vec<u64>), Al
 
 /// A run with these words and this input, which is taken, and what is written put, in pieces of this length. One call fails, if
 /// any.
-pub fn run<R: Threads>(
+pub fn run<R: Threads + Sync>(
     rt: &R,
     alloc: Global,
     words: &str,
