@@ -79,7 +79,11 @@ fn fill_places(degree: &Degree, places: &mut Vec<Place>, answers: Vec<Answer>)
 }
 
 // The answers of all workers at the places of their types.
-fn collect(alloc: Global, degree: &Degree, lists: Vec<Vec<Answer>>) -> Result<Vec<Place>, NoMemory>
+pub(crate) fn collect(
+    alloc: Global,
+    degree: &Degree,
+    lists: Vec<Vec<Answer>>,
+) -> Result<Vec<Place>, NoMemory>
     requires { All (λ w. All (IsAnswered degree.now) w.items) lists.items }
     ensures { IfOk result (λ v. ArePlaces degree.now v.items) }
 {
@@ -121,7 +125,11 @@ fn push_block(blocks: &mut Vec<Block>, block: Block) -> Result<(), NoMemory>
 }
 
 // The blocks in the order of their types, or why the first type that has none has none.
-fn in_order(alloc: Global, degree: &Degree, mut places: Vec<Place>) -> Result<Vec<Block>, BlockStop>
+pub(crate) fn in_order(
+    alloc: Global,
+    degree: &Degree,
+    mut places: Vec<Place>,
+) -> Result<Vec<Block>, BlockStop>
     requires degree { IsDegree degree.now }
     requires places { ArePlaces degree.now places.items }
     ensures blocks { IfOk result (λ v. AreBlocks (forms degree.now.rules.now) degree.now.tables.now degree.now.types.now (map block_view v.items)) }

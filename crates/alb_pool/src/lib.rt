@@ -4,7 +4,12 @@
 
 mod blocks;
 mod build;
+mod claimed;
+mod gate;
 mod workers;
 
+pub use alb_claims::{Claim, ClaimPass, Claims, Draw};
 pub use blocks::par_blocks;
 pub use build::build_with;
+pub use claimed::claimed_blocks;
+pub use gate::{Gate, NoGate};

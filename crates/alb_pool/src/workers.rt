@@ -56,7 +56,7 @@ fn draw(alloc: Global, degree: &Degree, next: &AtomicUsize) -> Option<Answer>
 }
 
 // Keeps one more answer, where there is memory for it.
-fn push_answer(answers: &mut Vec<Answer>, answer: Answer) -> Result<(), NoMemory>
+pub(crate) fn push_answer(answers: &mut Vec<Answer>, answer: Answer) -> Result<(), NoMemory>
     ensures ok { OnOk result (answers.new.items ≡ answers.old.items ++ answer ∷ []) }
     ensures err { OnErr result (answers.new.items ≡ answers.old.items) }
 {

@@ -12,3 +12,5 @@ mod instances;
 mod questions;
 #[cfg(test)]
 mod tables;
+#[cfg(test)]
+mod workers;
