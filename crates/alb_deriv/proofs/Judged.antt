@@ -1,6 +1,5 @@
 -- Faults and their absence.
 use Rattle.std.proofs.Common.{◌≡◌, ◌<◌, ℕ, ◌+◌, ◌-◌, Bool, true, false, List, [], ◌∷◌, ◌++◌, length, refl, sym, subst, Option, Some, None}
-use Rattle.std.specs.Prelude.{◌&&◌}
 use Rattle.std.proofs.lemmas.Bool.{false≢true, eqb-true, eq-eqb}
 use Rattle.gf_sums.proofs.Alike.{Alike, joined, turned}
 use Rattle.alb_mono.proofs.Both.{both_tests}

@@ -3,6 +3,7 @@ pub mod Lines
 pub mod Judged
 pub mod Within
 pub mod Fits
+pub mod TallyLemmas
 pub mod LineLemmas
 pub mod ListLemmas
 pub mod Appended

@@ -1,13 +1,15 @@
 -- The polynomials of single lines.
 use Rattle.std.proofs.Common.{◌≡◌, ℕ, zero, suc, ◌+◌, ◌-◌, ◌*◌, ◌<◌, ◌≤◌, Bool, true, false, IsTrue, List, [], ◌∷◌, ◌++◌, map, length, All, get_or, sym, refl, ap, ◌∙◌, subst, arith, inl, inr, Some, None, sum, take}
-use Rattle.std.specs.Prelude.{if◌then◌else◌, sum_by, ◌||◌, ◌&&◌, not}
+use Rattle.std.specs.Prelude.{if◌then◌else◌, sum_by, ◌||◌, not}
 use Rattle.std.specs.List.{flat_map, list_any}
 use Rattle.std.proofs.lemmas.List.{take_more, append-nil, get_or-map, length-map}
 use Rattle.std.proofs.lemmas.List.Concat.{flat_map-append}
 use Rattle.std.proofs.lemmas.Bool.{cases_Bool, false≢true}
 use Rattle.std.proofs.lemmas.Bool.Decides.{nat_tests}
 use Rattle.std.proofs.lemmas.List.Sums.{sum_by-cons}
-use Rattle.gf_sums.specs.Sums.{total, scale, reindex, IsCanonical}
+use Rattle.gf_field.specs.Modular.{IsSameMod}
+use Rattle.gf_field.proofs.Mod.{same, plus, times, of_mod}
+use Rattle.gf_sums.specs.Sums.{total, weigh, scale, reindex, IsCanonical}
 use Rattle.gf_sums.proofs.Alike.{Alike, joined, scale-alike, append-alike, reindex-alike}
 use Rattle.alb_mono.proofs.Both.{and_left, and_right}
 use Rattle.alb_mono.specs.Listing.{Each}
@@ -15,18 +17,20 @@ use Rattle.alb_mono.specs.Tree.{Tree, leaf, node, degree, are_below, AreBelow, c
 use Rattle.alb_mono.specs.declared.mono.Mono.{Mono}
 use Rattle.alb_mono.specs.declared.side.Side.{Side}
 use Rattle.alb_mono.specs.declared.side.Side.TheVariants.{Left, Right}
-use Rattle.alb_poly.specs.Poly.{Poly, greatest_degree, AreResidues, normal}
+use Rattle.alb_poly.proofs.Consequence.{alike_poly, poly_alike}
+use Rattle.alb_poly.specs.Poly.{Poly, IsSamePoly, greatest_degree, AreResidues, normal}
 use Rattle.gf_field.specs.Modular.{IsInTable}
 use Rattle.gf_field.proofs.Table.{IsPrime-from_table}
-use Rattle.alb_poly.specs.Terms.{terms}
+use Rattle.alb_poly.specs.Terms.{terms, multiples}
 use Rattle.alb_poly.specs.declared.term.Term.{Term}
 use Rattle.alb_poly.specs.Instance.{IsAtMost, Form, instance}
-use Rattle.alb_poly.proofs.Multilinear.{each-append, each-map, each-from}
+use Rattle.alb_poly.proofs.Multilinear.{each-from}
+use Rattle.alb_poly.proofs.Types.{test_from_below}
 use Rattle.alb_poly.proofs.AtMost.{degree-at_most}
 use Rattle.alb_poly.specs.Consequence.{beside, form_at, form}
 use Rattle.alb_poly.specs.declared.rules.Linear.{Linear}
 use Rattle.alb_poly.proofs.Parts.{each_at}
-use Rattle.alb_poly.proofs.NormalLemmas.{normal-each, normal-alike, alike-normal, alike-is-normal, canonical-normal, degree-each, descending-canonical, canonical-descending, canonical-residues}
+use Rattle.alb_poly.proofs.NormalLemmas.{normal-each, normal-alike, alike-is-normal, canonical-normal, degree-each, descending-canonical, canonical-descending, canonical-residues}
 use Rattle.alb_poly.proofs.Falling.{descending-beside}
 use Rattle.alb_linear.specs.Identity.{IsLinearized}
 use Rattle.alb_deriv.specs.Derivation.{Times, Sum, LaterLine, OutOfType, fault, line_value, is_no_place, are_within, earlier}
@@ -141,6 +145,14 @@ none_found n k h = elim (cases_Bool (is_no_place n k)) [
   | inr e ↦ absurd (let q : None ≡ Some (k - 1) = h ∙ rw e in cc)
 ]
 
+multiples-weigh : (w : Tree → ℕ) (p c : ℕ) (f : Poly) → IsSameMod p (weigh w (multiples p c f)) (weigh w (scale c f))
+multiples-weigh w p c [] = same refl
+multiples-weigh w p c (t ∷ f) = plus (times (of_mod (c * t.0)) (same {a = w t.1} refl)) (multiples-weigh w p c f)
+
+-- multiples with their residues are multiples
+multiples-alike : (p c : ℕ) (f : Poly) → Alike p (multiples p c f) (scale c f)
+multiples-alike p c f = record { at = λ w. multiples-weigh w p c f }
+
 module _ (p : ℕ) (pos : 0 < p) (target : List ℕ) (fs : List Form) where
   pub times-later : (gs values : List Poly) (k : ℕ) (s : Side × Tree) → values ≡ map (normal p) gs →
       None ≡ (if is_no_place (length values) k then None else Some (k - 1)) → fault p target fs gs (Times k s) ≡ Some LaterLine
@@ -162,23 +174,15 @@ module _ (p : ℕ) (pos : 0 < p) (target : List ℕ) (fs : List Form) where
       let q : list_any (λ c. is_no_place (length gs) c.1) cs ≡ later = subst (λ n. list_any (λ c. is_no_place n c.1) cs ≡ later) (same_place p gs values e) (sym h) in rw q refl
 
   -- one more multiple
-  pub sum-more : (gs : List Poly) (cs : List (ℕ × ℕ)) (i : ℕ) (c : ℕ × ℕ) (sum f : Poly) → i < length cs → c ≡ get_or cs i c → f ≡ normal p (earlier gs c.1) →
-      sum ≡ normal p (line_value fs gs (Sum (take i cs))) → normal p (sum ++ normal p (scale c.0 f)) ≡ normal p (line_value fs gs (Sum (take (i + 1) cs)))
-  sum-more gs cs i c sum f l e v h =
+  pub sum-more : (gs : List Poly) (cs : List (ℕ × ℕ)) (i : ℕ) (c : ℕ × ℕ) (now more f : Poly) → i < length cs → c ≡ get_or cs i c → f ≡ normal p (earlier gs c.1) →
+      IsSamePoly p now (line_value fs gs (Sum (take i cs))) → IsSamePoly p more (now ++ multiples p c.0 f) → IsSamePoly p more (line_value fs gs (Sum (take (i + 1) cs)))
+  sum-more gs cs i c now more f l e v h k =
       let g : ℕ × ℕ → Poly = λ d. scale d.0 (earlier gs d.1) in
-      let more : flat_map g (take (i + 1) cs) ≡ flat_map g (take i cs) ++ scale c.0 (earlier gs c.1) =
+      let grown : flat_map g (take (i + 1) cs) ≡ flat_map g (take i cs) ++ scale c.0 (earlier gs c.1) =
       ap (flat_map g) (take_more cs i c l) ∙ flat_map-append g (take i cs) (get_or cs i c ∷ []) ∙ ap (λ y. flat_map g (take i cs) ++ y) (append-nil (g (get_or cs i c)) ∙ ap g (sym e)) in
-      alike-normal p (sum ++ normal p (scale c.0 f)) (flat_map g (take (i + 1) cs)) pos
-      (subst (λ y. Alike p (sum ++ normal p (scale c.0 f)) y) (sym more)
-      (append-alike (subst (λ y. Alike p y (flat_map g (take i cs))) (sym h) (normal-alike p (flat_map g (take i cs))))
-      (joined (normal-alike p (scale c.0 f)) (scale-alike c.0 (subst (λ y. Alike p y (earlier gs c.1)) (sym v) (normal-alike p (earlier gs c.1)))))))
-
--- sums and multiples within the target are within it
-pub sum-fit : (p : ℕ) (target : List ℕ) (c : ℕ) (sum f : Poly) → IsPolyAtMost target sum → IsPolyAtMost target f → IsPolyAtMost target (normal p (sum ++ normal p (scale c f)))
-sum-fit p target c sum f h k =
-    normal-each (IsAtMost target) p (sum ++ normal p (scale c f))
-    (each-append (λ t. IsAtMost target t.1) sum (normal p (scale c f)) h
-    (normal-each (IsAtMost target) p (scale c f) (each-map (λ t. IsAtMost target t.1) (λ t. IsAtMost target t.1) (λ t. (c * t.0, t.1)) f (λ t q. q) k)))
+      let own : Alike p f (earlier gs c.1) = subst (λ y. Alike p y (earlier gs c.1)) (sym v) (normal-alike p (earlier gs c.1)) in
+      subst (λ y. IsSamePoly p more y) (sym grown)
+      (poly_alike (joined (alike_poly k) (append-alike (alike_poly h) (joined (multiples-alike p c.0 f) (scale-alike c.0 own)))))
 
 pub beside-fit : (target : List ℕ) (s : Side × Tree) (f : Poly) → AreBelow (length target) s.1 → IsPolyAtMost target f → list_any (λ t. passes target t.1) (reindex (beside s) f) ≡ false →
     IsPolyAtMost target (reindex (beside s) f)
@@ -202,6 +206,14 @@ beside-low target s (t ∷ f) low b small h k =
     let both : degree (beside s t.1) ≡ degree t.1 + degree s.1 = degree-beside s t.1 in
     let own : greatest_degree (t ∷ f) ≤ 12 = degree-each 12 (t ∷ f) (each-from (λ u. IsAtMost target u.1) (λ u. degree u.1 ≤ 12) (t ∷ f) (λ u q. omega (arith, degree-at_most target u.1 q)) h) in
     omega arith
+
+-- what is within a target of low degree has low degree, and letters that there are
+pub fit-low : (target : List ℕ) (f : Poly) → sum target ≤ 12 → IsPolyAtMost target f → Each (λ t. degree t.1 ≤ 12) f
+fit-low target f low h = each-from (λ t. IsAtMost target t.1) (λ t. degree t.1 ≤ 12) f (λ t q. omega (arith, degree-at_most target t.1 q)) h
+
+pub fit-letters : (target : List ℕ) (f : Poly) → length target ≤ 26 → IsPolyAtMost target f → Each (λ t. IsTrue (are_below 26 t.1)) f
+fit-letters target f long h =
+    each-from (λ t. IsAtMost target t.1) (λ t. IsTrue (are_below 26 t.1)) f (λ t q. below-more (length target) 26 t.1 long (test_from_below (length target) t.1 q.below)) h
 
 pub table-positive : (p : ℕ) → IsInTable p → 0 < p
 table-positive p h = omega (arith, (IsPrime-from_table p h).above_one)

@@ -3,3 +3,4 @@ pub mod Answers
 pub mod Short
 pub mod Derivation
 pub mod Laws
+pub mod Tally

@@ -8,6 +8,7 @@ ghost use Rattle.alb_deriv.specs.Derivation.{fault, line_value, is_no_place, ear
 ghost use Rattle.alb_deriv.specs.Views.{line, IsLine};
 ghost use Rattle.alb_deriv.specs.Answers.{AreDerivationRules, IsPolyAtMost, IsValue, error_at};
 
+use crate::tally::Tally;
 use crate::types::{are_within, is_pair_within};
 use crate::{DerivError, Line};
 use alb_linear::instance;
@@ -167,7 +168,7 @@ fn add_up(
     values: &[Poly],
     items: &[(Residue, u64)],
 ) -> Result<Poly, NoMemory>
-    requires prime { 0 < rules.now.field }
+    requires rules { AreDerivationRules rules.now.field rules.now.target (forms rules.now) }
     requires places { list_any (λ c. is_no_place (length values.now) c.1) items.now ≡ false }
     requires coefficients { All (λ c. c.0 < rules.now.field) items.now }
     requires fit { All (λ g. IsPolyAtMost rules.now.target g) values.now }
@@ -177,15 +178,14 @@ fn add_up(
     ensures fit { IfOk result (λ g. IsPolyAtMost rules.now.target g) }
     ensures residues { IfOk result (λ g. AreResidues rules.now.field g) }
 {
-    let mut sum = Poly::zero(alloc);
+    let mut sum = Tally::new(alloc);
     for c in items {
         let Some(at) = place(values.len(), c.1) else {
             unreachable!()
         };
-        let multiple = values[at].scale(alloc, &rules.field, c.0)?;
-        sum = sum.add(alloc, &rules.field, &multiple)?;
+        sum.add_multiple(&rules.field, c.0, values[at].terms())?;
     }
-    Ok(sum)
+    sum.to_poly(alloc, &rules.field)
 }
 
 /// The polynomial of a line after lines with these polynomials, or the line's first fault.

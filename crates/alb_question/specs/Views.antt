@@ -7,6 +7,7 @@ use Rattle.alb_table.specs.RightTable.{rules_view}
 use Rattle.alb_table.specs.End.{end_of}
 use Rattle.alb_query.specs.Answer.{IsOver}
 use Rattle.alb_query.specs.Views.{answer_of}
+use Rattle.alb_trace.specs.Deriver.{IsDeriverFor}
 use Rattle.alb_trace.specs.Proof.{shown, CanBePrinted}
 use Rattle.alb_question.specs.Question.{Shot, IsBuilt}
 use Rattle.alb_question.specs.Question as asking
@@ -50,7 +51,8 @@ IsPrintable p n other = Unit {0}
 abbrev pub shot_of : Topic → Shot
 shot_of t = record { table = t.tables; end = Some (end_of t.end) }
 
--- the problem of a topic is accepted, and its table is the one at which the building ends
+-- the problem of a topic is accepted, its table is the one at which the building ends, and its derivations are by this table
 pub record IsTopic (t : Topic) : Type 0 where
   pub accepted : IsAccepted t.problem
   pub built : IsBuilt (rules_view t.problem.rules) (shot_of t)
+  pub deriver : IsDeriverFor (rules_view t.problem.rules) t.tables t.deriver

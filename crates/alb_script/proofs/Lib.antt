@@ -1,2 +1,4 @@
 pub mod Memory
 pub mod WordLemmas
+pub mod KnownLemmas
+pub mod ToldLemmas

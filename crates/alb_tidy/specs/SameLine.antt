@@ -1,12 +1,13 @@
 -- Whether two lines are one, and that this test tells lines apart. The laws of `Eq` and `Hash` cite it.
-use Rattle.std.specs.Prelude.{◌≡◌, ℕ, ◌&&◌, ◌==◌, Bool, true, false, List, [], ◌++◌}
+use Rattle.std.specs.Prelude.{◌≡◌, ℕ, ◌&&◌, ◌==◌, Bool, true, false, List, ◌++◌}
 use Rattle.std.specs.Bool.{Decides}
 use Rattle.std.specs.List.{flat_map}
-use Rattle.std.specs.Cmp.{IsEquivalence, decided, on_equiv, first_so, second_so}
+use Rattle.std.specs.Cmp.{IsEquivalence, decided, first_so, second_so}
 use Rattle.std.specs.Cmp.Lexicographic.{pointwise, pointwise_decides}
 use Rattle.std.specs.Hash as fed
 use Rattle.std.proofs.Common.{true≢false, refl, sym, ap, subst, eqb-true, eq-eqb}
-use Rattle.alb_mono.specs.Tree.{Tree, leaf, node, same_tree}
+use Rattle.alb_keys.specs.SameTree.{tree-Decides, tree_writes}
+use Rattle.alb_mono.specs.Tree.{Tree, same_tree}
 use Rattle.alb_mono.specs.declared.side.Side.{Side}
 use Rattle.alb_mono.specs.declared.side.Side.TheVariants.{Left, Right}
 use Rattle.alb_deriv.specs.Derivation.{Line, Instance, Times, Sum}
@@ -36,22 +37,6 @@ same_line (Sum cs) (Sum ds) = pointwise same_item cs ds
 
 same-both : (a b : Bool) → a ≡ true → b ≡ true → (a && b) ≡ true
 same-both a b h k = λ i. h i && k i
-
-same_tree-is : (l m : Tree) → same_tree l m ≡ true → l ≡ m
-same_tree-is (leaf a) (leaf b) h = ap leaf (eqb-true a b h)
-same_tree-is (leaf a) (node m s) h = absurd (true≢false (sym h))
-same_tree-is (node l r) (leaf b) h = absurd (true≢false (sym h))
-same_tree-is (node l r) (node m s) h = λ i. node (same_tree-is l m (first_so (same_tree l m) (same_tree r s) h) i) (same_tree-is r s (second_so (same_tree l m) (same_tree r s) h) i)
-
-tree-itself : (m : Tree) → same_tree m m ≡ true
-tree-itself (leaf a) = eq-eqb a a refl
-tree-itself (node l r) = same-both (same_tree l l) (same_tree r r) (tree-itself l) (tree-itself r)
-
-pub tree-Decides : (l m : Tree) → Decides (same_tree l m) (l ≡ m)
-tree-Decides l m = (same_tree-is l m, λ e. subst (λ x. same_tree l x ≡ true) e (tree-itself l))
-
-pub same_tree-equivalence : IsEquivalence same_tree
-same_tree-equivalence = decided same_tree tree-Decides
 
 same_side-is : (s t : Side) → same_side s t ≡ true → s ≡ t
 same_side-is Left Left h = refl
@@ -88,7 +73,7 @@ same_line-is (Times k s) (Times l t) h =
     let b = second_so (k == l && same_side s.0 t.0) (same_tree s.1 t.1) h in
     let c = first_so (k == l) (same_side s.0 t.0) a in
     let d = second_so (k == l) (same_side s.0 t.0) a in
-    λ x. Times (eqb-true k l c x) (same_side-is s.0 t.0 d x, same_tree-is s.1 t.1 b x)
+    λ x. Times (eqb-true k l c x) (same_side-is s.0 t.0 d x, (tree-Decides s.1 t.1).0 b x)
 same_line-is (Times k s) (Sum ds) h = absurd (true≢false (sym h))
 same_line-is (Sum cs) (Instance j ns) h = absurd (true≢false (sym h))
 same_line-is (Sum cs) (Times l t) h = absurd (true≢false (sym h))
@@ -97,7 +82,7 @@ same_line-is (Sum cs) (Sum ds) h = λ x. Sum ((items-Decides cs ds).0 h x)
 pub line-itself : (l : Line) → same_line l l ≡ true
 line-itself (Instance i ms) = same-both (i == i) (pointwise same_tree ms ms) (eq-eqb i i refl) ((trees-Decides ms ms).1 refl)
 line-itself (Times k s) =
-    same-both (k == k && same_side s.0 s.0) (same_tree s.1 s.1) (same-both (k == k) (same_side s.0 s.0) (eq-eqb k k refl) (side-itself s.0)) (tree-itself s.1)
+    same-both (k == k && same_side s.0 s.0) (same_tree s.1 s.1) (same-both (k == k) (same_side s.0 s.0) (eq-eqb k k refl) (side-itself s.0)) ((tree-Decides s.1 s.1).1 refl)
 line-itself (Sum cs) = (items-Decides cs cs).1 refl
 
 pub line-Decides : (l m : Line) → Decides (same_line l m) (l ≡ m)
@@ -107,11 +92,6 @@ pub same_line-equivalence : IsEquivalence same_line
 same_line-equivalence = decided same_line line-Decides
 
 -- ---- what a line feeds a hasher
-
--- a product as 255 and its factors
-abbrev pub tree_writes : Tree → fed.HashWrites
-tree_writes (leaf k) = fed.u8 k
-tree_writes (node l r) = fed.u8 255 ++ tree_writes l ++ tree_writes r
 
 abbrev pub side_writes : Side → fed.HashWrites
 side_writes Left = fed.u8 0

@@ -4,11 +4,13 @@ ghost use Rattle.std.specs.Cmp.{on_equiv, partial_equiv_from_equiv};
 ghost use Rattle.std.specs.Cmp.Lexicographic.{pointwise};
 ghost use Rattle.std.specs.Hash.{on_Alike, same_Alike};
 ghost use Rattle.std.specs.List.{flat_map};
+ghost use Rattle.alb_keys.specs.SameTree.{tree_writes};
 ghost use Rattle.alb_mono.specs.Tree.{tree, same_tree};
 ghost use Rattle.alb_deriv.specs.Views.{line};
-ghost use Rattle.alb_tidy.specs.SameLine.{same_line, same_line-equivalence, line-Decides, line_writes, tree_writes, side_writes, item_writes};
+ghost use Rattle.alb_tidy.specs.SameLine.{same_line, same_line-equivalence, line-Decides, line_writes, side_writes, item_writes};
 
 use alb_deriv::Line;
+use alb_keys::feed_mono;
 use alb_mono::{Mono, Side};
 use gf_field::Residue;
 use std::hash::{Hash, Hasher};
@@ -44,20 +46,6 @@ fn is_same(l: &Line, m: &Line) -> bool
         (Line::Times(k, s, a), Line::Times(n, t, b)) => k == n && s == t && a.is_same(b),
         (Line::Sum(cs), Line::Sum(ds)) => cs == ds,
         _ => false,
-    }
-}
-
-// Feeds a monomial.
-pub(crate) fn feed_mono<H: Hasher>(m: &Mono, state: &mut H)
-    ensures { state.new ≡ fold H.write state.old (tree_writes (tree m.now)) }
-{
-    match m {
-        Mono::Gen(k) => state.write_u8(*k),
-        Mono::Prod(left, right) => {
-            state.write_u8(255);
-            feed_mono(left, state);
-            feed_mono(right, state);
-        }
     }
 }
 

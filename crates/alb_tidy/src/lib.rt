@@ -6,9 +6,7 @@ mod keeping;
 mod key;
 mod ledger;
 mod marks;
-mod mono_key;
 
 pub use keeping::tidy;
 pub use key::LineKey;
 pub use ledger::Ledger;
-pub use mono_key::MonoKey;

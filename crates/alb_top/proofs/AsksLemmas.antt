@@ -1,14 +1,13 @@
 -- What a line asks for, as it was read.
 use Rattle.std.proofs.Common.{◌≡◌, ℕ, Bool, true, false, List, length, Ok, Err, refl}
 use Rattle.std.specs.Prelude.{IfOk}
-use Rattle.alb_lex.specs.declared.error.LexError.TheVariants as lex
-use Rattle.alb_syntax.specs.declared.error.SyntaxError.TheVariants as syntax
 use Rattle.alb_script.specs.Asked.{view, command_word, IsCommandOver, Fails, IsPlain}
 use Rattle.alb_script.specs.declared.command.Command.{Command}
 use Rattle.alb_script.specs.declared.command.Command.TheVariants as command
 use Rattle.alb_script.specs.declared.error.CommandError.{CommandError}
 use Rattle.alb_script.specs.declared.error.CommandError.TheVariants as error
 use Rattle.alb_script.specs.declared.refusal.Refusal.TheVariants as refusal
+use Rattle.alb_script.proofs.Memory.{plain-failed, plain-memory}
 use Rattle.alb_top.specs.Script.{State, letters_of, total_of, asked_of, is_claim}
 use Rattle.alb_top.specs.View.{IsTimely, AsksFor, MayBeAsked, CanBeWritten, asks_of, refused_as}
 use Rattle.alb_top.proofs.AskedLemmas.{asked-timely, claim-form}
@@ -61,18 +60,15 @@ by_claim true (error.Syntax e) s line is h w n = ((h, is), w)
 by_claim false (error.Syntax e) s line is h w n = ((h, is), w)
 by_claim b error.NoMemory s line is h w n = absurd (n refl)
 
+failed-asks : (e : CommandError) (s : State) (line : List ℕ) → Fails e (asked_of s line) → IsPlain e → (e ≡ error.NoMemory → ⊥) → IfOk (refused_as (is_claim (command_word s.form line)) e) (λ a. AsksFor a s line × MayBeAsked a s)
+failed-asks e s line h p n =
+    by_claim (is_claim (command_word s.form line)) e s line refl (plain-failed e (asked_of s line) p n h) (record { memory = plain-memory e p n; known = tt }) n
+
 pub refusal-asks : (e : CommandError) (s : State) (line : List ℕ) → Fails e (asked_of s line) → IsPlain e → IfOk (refused_as (is_claim (command_word s.form line)) e) (λ a. AsksFor a s line × MayBeAsked a s)
-refusal-asks error.Unknown s line h p = by_claim (is_claim (command_word s.form line)) error.Unknown s line refl h (record { memory = refl; known = tt }) (λ e. cc)
-refusal-asks error.NotYetBuilt s line h p = by_claim (is_claim (command_word s.form line)) error.NotYetBuilt s line refl h (record { memory = refl; known = tt }) (λ e. cc)
-refusal-asks error.AlreadyBuilt s line h p = by_claim (is_claim (command_word s.form line)) error.AlreadyBuilt s line refl h (record { memory = refl; known = tt }) (λ e. cc)
-refusal-asks (error.BadArgument place) s line h p = by_claim (is_claim (command_word s.form line)) (error.BadArgument place) s line refl h (record { memory = refl; known = tt }) (λ e. cc)
-refusal-asks (error.Lex (lex.BadByte place)) s line h p = by_claim (is_claim (command_word s.form line)) (error.Lex (lex.BadByte place)) s line refl h (record { memory = refl; known = tt }) (λ e. cc)
-refusal-asks (error.Lex (lex.NumberTooLong place)) s line h p = by_claim (is_claim (command_word s.form line)) (error.Lex (lex.NumberTooLong place)) s line refl h (record { memory = refl; known = tt }) (λ e. cc)
-refusal-asks (error.Lex lex.NoMemory) s line h p = absurd p
-refusal-asks (error.Syntax (syntax.Expected place)) s line h p = by_claim (is_claim (command_word s.form line)) (error.Syntax (syntax.Expected place)) s line refl h (record { memory = refl; known = tt }) (λ e. cc)
-refusal-asks (error.Syntax (syntax.UnknownLetter place)) s line h p = by_claim (is_claim (command_word s.form line)) (error.Syntax (syntax.UnknownLetter place)) s line refl h (record { memory = refl; known = tt }) (λ e. cc)
-refusal-asks (error.Syntax (syntax.TooDeep place)) s line h p = by_claim (is_claim (command_word s.form line)) (error.Syntax (syntax.TooDeep place)) s line refl h (record { memory = refl; known = tt }) (λ e. cc)
-refusal-asks (error.Syntax (syntax.TooManyTerms place)) s line h p = by_claim (is_claim (command_word s.form line)) (error.Syntax (syntax.TooManyTerms place)) s line refl h (record { memory = refl; known = tt }) (λ e. cc)
-refusal-asks (error.Syntax (syntax.TooHigh place)) s line h p = by_claim (is_claim (command_word s.form line)) (error.Syntax (syntax.TooHigh place)) s line refl h (record { memory = refl; known = tt }) (λ e. cc)
-refusal-asks (error.Syntax syntax.NoMemory) s line h p = absurd p
+refusal-asks error.Unknown s line h p = failed-asks error.Unknown s line h p (λ e. cc)
+refusal-asks error.NotYetBuilt s line h p = failed-asks error.NotYetBuilt s line h p (λ e. cc)
+refusal-asks error.AlreadyBuilt s line h p = failed-asks error.AlreadyBuilt s line h p (λ e. cc)
+refusal-asks (error.BadArgument place) s line h p = failed-asks (error.BadArgument place) s line h p (λ e. cc)
+refusal-asks (error.Lex e) s line h p = failed-asks (error.Lex e) s line h p (λ e. cc)
+refusal-asks (error.Syntax e) s line h p = failed-asks (error.Syntax e) s line h p (λ e. cc)
 refusal-asks error.NoMemory s line h p = tt

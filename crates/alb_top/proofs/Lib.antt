@@ -8,6 +8,7 @@ pub mod TurnLemmas
 pub mod ClaimLemmas
 pub mod ScriptLemmas
 pub mod Going
+pub mod DoesLemmas
 pub mod UniqueCheck
 pub mod UniqueBatch
 pub mod AcceptedLemmas

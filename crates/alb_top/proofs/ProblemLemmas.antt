@@ -7,7 +7,7 @@ use Rattle.alb_problem.proofs.SoundLemmas.{field-sound, named-sound, identity-so
 use Rattle.alb_script.specs.Asked as asking
 use Rattle.alb_script.specs.Asked.{Asked}
 use Rattle.alb_top.specs.Script.{Response, Accepted, Numbered, unless, stated}
-use Rattle.alb_top.proofs.AskedLemmas.{IsKnown}
+use Rattle.alb_script.proofs.KnownLemmas.{IsKnown}
 
 unless-sound : (o : Option refusals.ProblemRefusal) (response : Response) (new old : Builder) → IsSoundProblem old → (o ≡ None → IsSoundProblem new) → IsSoundProblem (unless o response new old).1
 unless-sound None response new old h k = k refl

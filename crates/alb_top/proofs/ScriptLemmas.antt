@@ -19,7 +19,7 @@ use Rattle.alb_question.proofs.ProblemRules.{topic-built, topic-finding}
 use Rattle.alb_top.specs.Does.{script_form}
 use Rattle.alb_top.specs.Script.{Response, Built, Found, State, NoBlock, start, respond, BuildsBy, BuildsUnless, question_in, FindsBy, Obeys}
 use Rattle.alb_top.specs.Sound.{IsSoundState}
-use Rattle.alb_top.specs.View.{response_of, state, state_at, problem_of, IsStage, IsScript, IsQuestion, Begins}
+use Rattle.alb_top.specs.View.{response_of, state, state_at, problem_of, IsStage, IsScript, IsQuestion, IsWritable, Begins}
 use Rattle.alb_top.specs.declared.mode.Mode.{Mode}
 use Rattle.alb_top.specs.declared.mode.Mode.TheVariants as mode
 use Rattle.alb_top.specs.declared.response.Response as Rust
@@ -36,6 +36,7 @@ opening-sound s is h = subst (λ (t : State). IsSoundState t) (sym is) (sound-st
 pub check-mode : (m : Mode) (f : Form) → script_form m ≡ Some f → f ≡ form.Check → m ≡ mode.Check
 check-mode mode.Check f is h = refl
 check-mode mode.Batch f is h = absurd (let e : Some form.Batch ≡ Some form.Check = is ∙ ap (λ (x : Form). Some x) h in cc)
+check-mode (mode.Sample n) f is h = absurd (cc)
 
 -- ---- questions
 
@@ -85,6 +86,12 @@ pub script-topic : (s : Script) (t : Topic) → s.stage ≡ stage.Asking t → I
 script-topic s t is h =
     let u : IsStage s.mode (stage.Asking t) = subst (λ (u : Stage). IsStage s.mode u) is h.stage in u.1
 
+-- a topic that has answered a question stands for the same state
+pub answered-state : (s : Script) (t u : Topic) → s.stage ≡ stage.Asking t → u.problem ≡ t.problem → shot_of u ≡ shot_of t → state_at s.mode s.form (stage.Asking u) s.closed s.clean ≡ state s
+answered-state s t u is same shot =
+    ap₂ (λ (q : Problem) (x : Shot). record (state_at s.mode s.form (stage.Asking u) s.closed s.clean) { problem = problem q; shot = Some x }) same shot
+    ∙ ap (λ (v : Stage). state_at s.mode s.form v s.closed s.clean) (sym is)
+
 -- ---- the end of a problem
 
 begun : (m : Mode) (f : Form) (b : Builder) (closed clean : Bool) (q : Problem) (r : Rust.Response) (u : Stage) → problem q ≡ b → IsAccepted q → Begins m q r u
@@ -105,6 +112,12 @@ pub begins-responds : (m : Mode) (f : Form) (b : Builder) (closed clean : Bool) 
 begins-responds m f b closed clean q r u none whole a e =
     subst (λ o. BuildsUnless o (record (state_at m f u closed clean) { problem = b; built = false; shot = None }) (response_of r) (state_at m f u closed clean)) (sym none)
     (begun m f b closed clean q r u whole a e)
+
+-- the response can be written
+pub begins-writable : (m : Mode) (f : Form) (closed clean : Bool) (q : Problem) (r : Rust.Response) (u : Stage) → Begins m q r u → IsWritable (state_at m f u closed clean) r
+begins-writable mode.Batch f closed clean q r (stage.Asking t) e = subst (IsWritable (state_at mode.Batch f (stage.Asking t) closed clean)) (sym e.2) tt
+begins-writable mode.Check f closed clean q r (stage.Claiming c) e = subst (IsWritable (state_at mode.Check f (stage.Claiming c) closed clean)) (sym e.1) tt
+begins-writable m f closed clean q r u e = absurd e
 
 -- the same of a script
 pub stating-script : (s : Script) (b : Builder) (u : Stage) (r : Rust.Response) → s.stage ≡ stage.Stating b

@@ -13,6 +13,7 @@ use Rattle.alb_script.specs.declared.word.Word.TheVariants as word
 use Rattle.alb_script.specs.declared.form.Form.{Form}
 use Rattle.alb_script.specs.declared.form.Form.TheVariants as form
 use Rattle.alb_script.specs.declared.error.CommandError.{CommandError}
+use Rattle.alb_script.proofs.KnownLemmas.{IsKnown, asked-known}
 use Rattle.alb_evidence.specs.Block as block
 use Rattle.alb_evidence.specs.Block.{evidence_of, is_end}
 use Rattle.alb_judge.specs.Verdict.{Verdict, IsVerdict, IsJustified}
@@ -27,7 +28,7 @@ use Rattle.alb_top.specs.Sound.{IsSoundState, IsAfterBuild, HasBuilt, HasShot}
 use Rattle.alb_top.specs.View.{IsTimely, StandsBy, IsQuestion}
 use Rattle.alb_top.specs.declared.mode.Mode.{Mode}
 use Rattle.alb_top.specs.declared.mode.Mode.TheVariants as mode
-use Rattle.alb_top.proofs.AskedLemmas.{IsKnown, asked-timely, asked-known}
+use Rattle.alb_top.proofs.AskedLemmas.{asked-timely}
 use Rattle.alb_top.proofs.ProblemLemmas.{stated-sound}
 
 -- ---- commands
@@ -44,6 +45,7 @@ respond-sound s response h = record { problem = h.problem; accepted = h.accepted
 has-early : (m : Mode) (b : Builder) (o : Option Shot) → HasShot m false b o
 has-early mode.Batch b o = tt
 has-early mode.Check b o = tt
+has-early (mode.Sample n) b o = tt
 
 with-sound : (s : State) (a : Asked) → s.built ≡ false → IsSoundState s → IsKnown a → IsSoundState (with_problem s (stated s.problem a)).1
 with-sound s a early h k = record {
@@ -108,6 +110,7 @@ builds-sound mode.Batch old new response is h none b = same-sound new response _
   reads = h.reads;
   shot = subst (λ m. HasShot m true old.problem (Some b.shot)) (sym is) b.built;
 })
+builds-sound (mode.Sample n) old new response is h none b = absurd b
 
 unless-sound : (o : Option refusals.ProblemRefusal) (old new : State) (response : Response) → finish_refusal old.problem ≡ o → IsSoundState old → BuildsUnless o old response new → IsSoundState new
 unless-sound None old new response is h b = builds-sound old.mode old new response refl h is b
@@ -147,6 +150,10 @@ commands-sound false old new line response h e = line_obeyed-sound old new line 
 
 -- ---- each command has a response
 
+-- a sample reads no script
+no-script : (n : ℕ) (f : Form) → script_form (mode.Sample n) ≡ Some f → ⊥
+no-script n f e = cc
+
 builds-some : (m : Mode) (old : State) → old.mode ≡ m → IsSoundState old → finish_refusal old.problem ≡ None → Some_response (BuildsBy m old)
 builds-some mode.Check old is h none =
     let new : State = (respond Ready (record old { built = true })).1 in
@@ -156,6 +163,7 @@ builds-some mode.Batch old is h none =
     let new : State = (respond Built (record old { built = true; shot = Some e.0 })).1 in
     let b : BuildsBy mode.Batch old Built new = record { shot = e.0; built = e.1; responds = refl } in
     (Built, new, b, builds-sound mode.Batch old new Built is h none b)
+builds-some (mode.Sample n) old is h none = absurd (no-script n old.form (subst (λ m. script_form m ≡ Some old.form) is h.reads))
 
 unless-some : (o : Option refusals.ProblemRefusal) (old : State) → finish_refusal old.problem ≡ o → IsSoundState old → Some_response (BuildsUnless o old)
 unless-some None old is h = builds-some old.mode old refl h is
@@ -176,6 +184,7 @@ has-shot : (m : Mode) (f : Form) (built : Bool) (b : Builder) (o : Option Shot) 
 has-shot mode.Check f built b o is other k h = absurd (let e : f ≡ form.Check = cc in other e)
 has-shot mode.Batch f true b o is other k h = h
 has-shot mode.Batch f false b o is other k h = absurd (cc)
+has-shot (mode.Sample n) f built b o is other k h = absurd (cc)
 
 pub asked-shot : (s : State) (a : Asked) → IsQuestion a → IsSoundState s → IsTimely s.form s.built a → s.built ≡ true → HasBuilt s.problem s.shot
 asked-shot s a q h t built =

@@ -178,6 +178,7 @@ module _ (old : State) (o : Option Shot) (sound : IsSoundState old) where
           shots = subst (λ (s : State). HasTwin s (Some k.shot)) (sym is) (h.built, k.built, same);
         },
       )
+  builds-same (mode.Sample j) none early w r q m n h k = absurd h
 
   unless-same : (x : Option refusals.ProblemRefusal) → finish_refusal old.problem ≡ x → old.built ≡ false → HasTwin old o → AreSame (λ r n. BuildsUnless x old r n) (λ r n. BuildsUnless x old' r n)
   unless-same None none early w = builds-same old.mode none early w

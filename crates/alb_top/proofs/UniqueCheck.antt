@@ -61,6 +61,7 @@ obey-check s asking.Quit c = record { mode = c.mode; shot = c.shot }
 builds-only : (old : State) (m : modes.Mode) → m ≡ mode.Check → IsCheck old → IsOnly (λ r n. BuildsBy m old r n)
 builds-only old mode.Check is c = given-only (respond Ready (record old { built = true })) (record { mode = c.mode; shot = c.shot })
 builds-only old mode.Batch is c = absurd (cc)
+builds-only old (mode.Sample n) is c = absurd (cc)
 
 unless-only : (o : Option refusals.ProblemRefusal) (old : State) → IsCheck old → IsOnly (λ r n. BuildsUnless o old r n)
 unless-only None old c = builds-only old old.mode c.mode c

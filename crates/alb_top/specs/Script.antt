@@ -138,10 +138,11 @@ pub record Builds (old : State) (response : Response) (new : State) : Type 0 whe
   pub built : IsBuilt (rules_of old.problem) shot
   pub responds : (response, new) ≡ respond Built (record old { built = true; shot = Some shot })
 
--- `build` of an accepted problem, by the mode: a check needs no table
+-- `build` of an accepted problem, by the mode: a check needs no table, and a sample reads no script
 abbrev pub BuildsBy : modes.Mode → State → Response → State → Type 0
 BuildsBy mode.Batch old response new = Builds old response new
 BuildsBy mode.Check old response new = (response, new) ≡ respond Ready (record old { built = true })
+BuildsBy (mode.Sample n) old response new = ⊥
 
 abbrev pub BuildsUnless : Option refusals.ProblemRefusal → State → Response → State → Type 0
 BuildsUnless None old response new = BuildsBy old.mode old response new

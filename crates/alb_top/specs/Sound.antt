@@ -22,6 +22,7 @@ abbrev pub HasShot : Mode → Bool → Builder → Option Shot → Type 0
 HasShot mode.Batch true b shot = HasBuilt b shot
 HasShot mode.Batch false b shot = Unit {0}
 HasShot mode.Check built b shot = Unit {0}
+HasShot (mode.Sample n) built b shot = Unit {0}
 
 pub record IsSoundState (s : State) : Type 0 where
   pub problem : IsSoundProblem s.problem

@@ -9,6 +9,7 @@ mod run;
 mod script;
 mod statement;
 mod turn;
+mod workers;
 mod write;
 
 pub use run::run_albert;

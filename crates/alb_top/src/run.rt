@@ -10,8 +10,11 @@ ghost use Rattle.alb_top.specs.View.{state, IsScript};
 use crate::mode::Mode;
 use crate::script::Script;
 use crate::turn::{Taken, take_turn};
+use crate::workers::Workers;
 use crate::write::write_response;
 use alb_io::{Desk, LineReader, Sink, Source, Status};
+use alb_sampling::run_sample;
+use alb_words::{WordsFault, read_words};
 use std::alloc::Global;
 use std::thread::Threads;
 
@@ -29,7 +32,8 @@ fn status(is_clean: bool) -> Status
 }
 
 // Answers line after line.
-fn run_script<S: Source, K: Sink>(
+fn run_script<R: Threads + Sync, S: Source, K: Sink>(
+    rt: &R,
     alloc: Global,
     reader: &mut LineReader,
     first: Script,
@@ -50,7 +54,7 @@ fn run_script<S: Source, K: Sink>(
 {
     let mut script = first;
     'turns: loop {
-        match take_turn(alloc, reader, script, input) {
+        match take_turn(rt, alloc, reader, script, input) {
             Taken::Response(response, next) => match write_response(
                 alloc, output, &next, &response,
             ) {
@@ -71,8 +75,15 @@ fn run_script<S: Source, K: Sink>(
     }
 }
 
-// Does what a mode does: it reads and answers its script.
-fn run_mode<S: Source, K: Sink>(alloc: Global, mode: Mode, input: &mut S, output: &mut K) -> Status
+// Does what a mode does: it reads and answers its script, or makes a sample.
+fn run_mode<R: Threads + Sync, S: Source, K: Sink>(
+    rt: &R,
+    alloc: Global,
+    mode: Mode,
+    workers: Workers,
+    input: &mut S,
+    output: &mut K,
+) -> Status
     ensures outcome { Does (Some mode) result (S.left input.old) (S.left input.new) (K.taken output.old) (K.taken output.new) }
     ensures read_fault { result ≡ Status.ReadFault → Rose (S.faults input.old) (S.faults input.new) }
     ensures write_fault { result ≡ Status.WriteFault → Rose (K.faults output.old) (K.faults output.new) }
@@ -82,18 +93,21 @@ fn run_mode<S: Source, K: Sink>(alloc: Global, mode: Mode, input: &mut S, output
     ensures no_open_fault { result ≢ Status.OpenFault }
     ensures no_report_fault { result ≢ Status.ReportFault }
 {
+    if let Mode::Sample(count) = mode {
+        return run_sample(rt, alloc, count, workers.number(), output);
+    }
     let Some(form) = mode.script_form() else {
         unreachable!();
     };
-    let script = Script::new(alloc, mode, form);
+    let script = Script::new(alloc, mode, form, workers);
     let Ok(mut reader) = LineReader::open(alloc, INPUT_LIMIT) else {
         return Status::NoMemory;
     };
-    run_script(alloc, &mut reader, script, input, output)
+    run_script(rt, alloc, &mut reader, script, input, output)
 }
 
 /// Does all that the program does: the words of the command line, a desk of files, an input and an output, and the status.
-pub fn run_albert<R: Threads, D: Desk, S: Source, K: Sink>(
+pub fn run_albert<R: Threads + Sync, D: Desk, S: Source, K: Sink>(
     rt: &R,
     alloc: Global,
     words: &[String],
@@ -101,8 +115,8 @@ pub fn run_albert<R: Threads, D: Desk, S: Source, K: Sink>(
     input: &mut S,
     output: &mut K,
 ) -> Status
-    // The words name no mode.
-    ensures usage { (result ≡ Status.Usage) ↔ (mode_of words.now ≡ None) }
+    // The words name no mode, unless memory runs out while they are read.
+    ensures usage { result ≢ Status.NoMemory → (result ≡ Status.Usage) ↔ (mode_of words.now ≡ None) }
     ensures outcome { Does (mode_of words.now) result (S.left input.old) (S.left input.new) (K.taken output.old) (K.taken output.new) }
     ensures read_fault { result ≡ Status.ReadFault → Rose (S.faults input.old) (S.faults input.new) }
     ensures write_fault { result ≡ Status.WriteFault → Rose (K.faults output.old) (K.faults output.new) }
@@ -113,10 +127,14 @@ pub fn run_albert<R: Threads, D: Desk, S: Source, K: Sink>(
     ensures open_fault { may_open (mode_of words.now) ≡ false → result ≢ Status.OpenFault }
     ensures no_report_fault { result ≢ Status.ReportFault }
 {
-    let _rt = rt;
     let _desk = desk;
-    let Some(mode) = Mode::of(words) else {
+    let said = match read_words(alloc, words) {
+        Ok(said) => said,
+        Err(WordsFault::NoMemory) => return Status::NoMemory,
+        Err(WordsFault::Usage) => return Status::Usage,
+    };
+    let Some(mode) = Mode::of(&said.others) else {
         return Status::Usage;
     };
-    run_mode(alloc, mode, input, output)
+    run_mode(rt, alloc, mode, Workers::of(said.workers), input, output)
 }

@@ -1,5 +1,5 @@
 //! A script as far as it was read, and what its commands make of it.
-ghost use Rattle.std.specs.Prelude.{◌≡◌, ◌≤◌, IfOk, IfErr, IfSome, IfNone, Some, None, true, false, length, sum};
+ghost use Rattle.std.specs.Prelude.{◌≡◌, ◌≢◌, ◌≤◌, IfOk, IfErr, IfSome, IfNone, Some, None, true, false, length, sum};
 ghost use Rattle.alb_problem.specs.Problem.{IsAccepted};
 ghost use Rattle.alb_problem.specs.Builder.{IsSoundProblem};
 ghost use Rattle.alb_script.specs.Asked.{asked, view, command_word, or_error, Gives, IsCommandOver, IsPlain, Build, Quit};
@@ -13,13 +13,15 @@ use crate::asks::{Asks, asks_of, question_in, refused};
 use crate::mode::Mode;
 use crate::response::Response;
 use crate::statement::state_problem;
+use crate::workers::Workers;
 use alb_judge::Verdict;
 use alb_mono::{Letters, NoMemory};
 use alb_problem::{FinishError, Problem, ProblemBuilder};
-use alb_question::{Topic, answer_question, build_topic};
+use alb_question::{Topic, build_topic};
 use alb_script::{BadCommand, Command, Form, Refusal, ScriptPlace, read_line};
 use gf_field::Field;
 use std::alloc::Global;
+use std::thread::Threads;
 
 /// How far a script has come.
 #[derive(Drop)]
@@ -33,13 +35,24 @@ pub enum Stage {
 }
 
 // What stands after the end of an accepted problem, and the response: a batch builds its table.
-fn begin(alloc: Global, mode: Mode, problem: Problem) -> Result<(Response, Stage), NoMemory>
-    requires { IsAccepted problem }
+fn begin<R: Threads + Sync>(
+    rt: &R,
+    alloc: Global,
+    mode: Mode,
+    workers: Workers,
+    problem: Problem,
+) -> Result<(Response, Stage), NoMemory>
+    requires accepted { IsAccepted problem }
+    requires reads { script_form mode ≢ None }
     ensures { IfOk result (λ r. Begins mode problem r.0 r.1) }
 {
     match mode {
-        Mode::Batch => Ok((Response::Built, Stage::Asking(build_topic(alloc, problem)?))),
+        Mode::Batch => {
+            let topic = build_topic(rt, alloc, workers.number(), problem)?;
+            Ok((Response::Built, Stage::Asking(topic)))
+        }
         Mode::Check => Ok((Response::Ready, Stage::Claiming(problem))),
+        Mode::Sample(_) => unreachable!(),
     }
 }
 
@@ -68,6 +81,7 @@ fn read_about(
 #[derive(Drop)]
 pub struct Script {
     mode: Mode,
+    workers: Workers,
     form: Form,
     stage: Stage,
     closed: bool,
@@ -78,13 +92,14 @@ impl Script {
     ghost use Rattle.alb_top.specs.View.{state, IsScript};
 
     /// The script of a mode that reads scripts of this form, before its first line.
-    pub fn new(alloc: Global, mode: Mode, form: Form) -> Script
+    pub fn new(alloc: Global, mode: Mode, form: Form, workers: Workers) -> Script
         requires { script_form mode ≡ Some form }
         ensures value { state result ≡ start mode form }
         ensures script { IsScript result }
     {
         Script {
             mode,
+            workers,
             form,
             stage: Stage::Stating(ProblemBuilder::new(alloc)),
             closed: false,
@@ -204,6 +219,7 @@ impl Script {
     {
         let Script {
             mode,
+            workers,
             form,
             stage,
             closed,
@@ -216,6 +232,7 @@ impl Script {
         let is_clean = response.is_clean();
         let next = Script {
             mode,
+            workers,
             form,
             stage: Stage::Stating(builder),
             closed,
@@ -225,7 +242,12 @@ impl Script {
     }
 
     /// The script after a command other than a claim, and the response.
-    pub fn obey(self, alloc: Global, command: Command) -> Result<(Response, Script), NoMemory>
+    pub fn obey<R: Threads + Sync>(
+        self,
+        rt: &R,
+        alloc: Global,
+        command: Command,
+    ) -> Result<(Response, Script), NoMemory>
         requires order { IsOrder (view command) }
         requires timely { IsTimely (state self).form (state self).built (view command) }
         requires read { IsCommandOver (state self).problem.field (length (letters_of (state self))) command }
@@ -237,7 +259,7 @@ impl Script {
     {
         match command {
             Command::Blank => Ok((Response::Nothing, self)),
-            Command::Build => self.build(alloc),
+            Command::Build => self.build(rt, alloc),
             Command::Quit => Ok((Response::Nothing, self.close())),
             Command::Polynomial(_) | Command::Prove(_) | Command::Dimensions | Command::Table => {
                 self.answer(alloc, command)
@@ -257,12 +279,28 @@ impl Script {
         ensures writable { IfOk result (λ r. IsWritable (state r.1) r.0) }
         ensures script { IfOk result (λ r. IsScript r.1) }
     {
-        let Stage::Asking(topic) = &self.stage else {
+        let Script {
+            mode,
+            workers,
+            form,
+            stage,
+            closed,
+            clean,
+        } = self;
+        let Stage::Asking(mut topic) = stage else {
             unreachable!();
         };
         let question = question_in(command);
-        let finding = answer_question(alloc, &topic.problem.rules, &topic.tables, &question)?;
-        Ok((Response::Found(finding), self))
+        let finding = topic.answer(alloc, &question)?;
+        let next = Script {
+            mode,
+            workers,
+            form,
+            stage: Stage::Asking(topic),
+            closed,
+            clean,
+        };
+        Ok((Response::Found(finding), next))
     }
 
     // The script after its end.
@@ -277,7 +315,7 @@ impl Script {
     }
 
     // The script after the end of the problem, and the response.
-    fn build(self, alloc: Global) -> Result<(Response, Script), NoMemory>
+    fn build<R: Threads + Sync>(self, rt: &R, alloc: Global) -> Result<(Response, Script), NoMemory>
         requires script { IsScript self }
         requires stating { (state self).built ≡ false }
         ensures responds { IfOk result (λ r. Obeys (state self) Build (response_of r.0) (state r.1)) }
@@ -286,6 +324,7 @@ impl Script {
     {
         let Script {
             mode,
+            workers,
             form,
             stage,
             closed,
@@ -296,9 +335,10 @@ impl Script {
         };
         match builder.finish() {
             Ok(problem) => {
-                let (response, stage) = begin(alloc, mode, problem)?;
+                let (response, stage) = begin(rt, alloc, mode, workers, problem)?;
                 let next = Script {
                     mode,
+                    workers,
                     form,
                     stage,
                     closed,
@@ -309,6 +349,7 @@ impl Script {
             Err(FinishError { builder, error }) => {
                 let next = Script {
                     mode,
+                    workers,
                     form,
                     stage: Stage::Stating(builder),
                     closed,

@@ -18,6 +18,7 @@ use alb_judge::{Judged, judge};
 use alb_poly::Poly;
 use alb_script::{CommandError, Refusal};
 use std::alloc::Global;
+use std::thread::Threads;
 
 /// What came of a turn: the response to a line, or to the end of the lines, with the script after it; or that there is no
 /// line to answer.
@@ -104,7 +105,8 @@ fn skip_claim<S: Source>(
 }
 
 // What a line asks for is done.
-fn take_asked<S: Source>(
+fn take_asked<R: Threads + Sync, S: Source>(
+    rt: &R,
     alloc: Global,
     reader: &mut LineReader,
     script: Script,
@@ -123,7 +125,7 @@ fn take_asked<S: Source>(
     ensures sound { S.is_sound input.old → S.is_sound input.new × (result ≢ Taken.ReadFault) }
 {
     match asks {
-        Asks::Command(command) => match script.obey(alloc, command) {
+        Asks::Command(command) => match script.obey(rt, alloc, command) {
             Ok((response, next)) => Taken::Response(response, next),
             Err(NoMemory) => Taken::NoMemory,
         },
@@ -137,7 +139,8 @@ fn take_asked<S: Source>(
 }
 
 /// Reads a line and answers it, and with a claim its block.
-pub fn take_turn<S: Source>(
+pub fn take_turn<R: Threads + Sync, S: Source>(
+    rt: &R,
     alloc: Global,
     reader: &mut LineReader,
     script: Script,
@@ -155,7 +158,7 @@ pub fn take_turn<S: Source>(
 {
     match reader.next_line(input) {
         LineStep::Line => match script.asks(alloc, reader.line()) {
-            Ok(asks) => take_asked(alloc, reader, script, input, asks),
+            Ok(asks) => take_asked(rt, alloc, reader, script, input, asks),
             Err(NoMemory) => Taken::NoMemory,
         },
         LineStep::TooLong => {

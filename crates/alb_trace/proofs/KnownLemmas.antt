@@ -15,7 +15,7 @@ use Rattle.alb_deriv.specs.Views.{line}
 use Rattle.alb_table.specs.Table.{same_pair, Table}
 use Rattle.alb_subst.proofs.SumLemmas.{pairs_tell}
 use Rattle.alb_trace.specs.Adds.{item_of, Adds}
-use Rattle.alb_tidy.specs.declared.mono_key.MonoKey.{MonoKey}
+use Rattle.alb_keys.specs.declared.owned.MonoKey.{MonoKey}
 use Rattle.alb_trace.specs.Origins.{origin_row}
 use Rattle.alb_trace.specs.Trace.{most_items, lines_of, product_less, mono_less, same_mono, same_row, IsTrace, Derives}
 use Rattle.alb_trace.specs.declared.row_key.RowKey.{RowKey}

@@ -10,3 +10,7 @@ IfOk-both (Err e) P Q R h p q = tt
 pub OnOk-weaker : {A E : Type 0} (r : Result A E) (P Q : Type 0) → (P → Q) → OnOk r P → OnOk r Q
 OnOk-weaker (Ok x) P Q h p = h p
 OnOk-weaker (Err e) P Q h p = tt
+
+pub on-ok : {A E P : Type 0} (r : Result A E) → P → OnOk r P
+on-ok (Ok x) p = p
+on-ok (Err e) p = tt

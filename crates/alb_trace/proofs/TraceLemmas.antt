@@ -28,7 +28,7 @@ use Rattle.alb_mono.specs.declared.mono.Mono.{Mono}
 use Rattle.alb_trace.specs.Adds.{item_of, IsLonger}
 use Rattle.alb_trace.specs.Given.{FitsTarget}
 use Rattle.alb_trace.specs.Origins.{IsOriginBlock}
-use Rattle.alb_tidy.specs.declared.mono_key.MonoKey.{MonoKey}
+use Rattle.alb_keys.specs.declared.owned.MonoKey.{MonoKey}
 use Rattle.alb_trace.specs.Trace.{most_items, lines_of, same_mono, same_row, IsTrace, Derives, Carries}
 use Rattle.alb_trace.specs.declared.row_key.RowKey.{RowKey}
 use Rattle.alb_trace.specs.declared.trace.Citation.{Citation}

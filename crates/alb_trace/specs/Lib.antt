@@ -5,6 +5,7 @@ pub mod Origins
 pub mod Trace
 pub mod Recipes
 pub mod Answer
+pub mod Deriver
 pub mod Proof
 pub mod TidyProof
 pub mod Laws

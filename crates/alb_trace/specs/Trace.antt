@@ -15,7 +15,7 @@ use Rattle.alb_table.specs.Block.{image}
 use Rattle.alb_table.specs.Right.{difference, mono_value}
 use Rattle.alb_table.specs.RightTable.{mono_entry}
 use Rattle.alb_trace.specs.Adds.{item_of, IsLonger, Adds}
-use Rattle.alb_tidy.specs.declared.mono_key.MonoKey.{MonoKey}
+use Rattle.alb_keys.specs.declared.owned.MonoKey.{MonoKey}
 use Rattle.alb_trace.specs.Origins.{IsOriginBlock, origin_row}
 use Rattle.alb_trace.specs.declared.row_key.RowKey.{RowKey}
 use Rattle.alb_trace.specs.declared.trace.Citation.{Citation}

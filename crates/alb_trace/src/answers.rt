@@ -1,4 +1,4 @@
-//! The derivations that are asked for, each from an empty trace.
+//! The derivations that are asked for.
 ghost use Rattle.std.specs.Prelude.{◌≡◌, ◌<◌, ◌^◌, All, IfOk, List, OnOk, length};
 ghost use Rattle.alb_mono.specs.Tree.{tree};
 ghost use Rattle.alb_poly.specs.Instance.{Form};
@@ -34,6 +34,12 @@ fn lines_in_memory(lines: Vec<Line>) -> Vec<Line>
     lines
 }
 
+/// Derivations by one table. What was derived is kept, so that a later derivation costs only what is new in it.
+#[derive(Drop)]
+pub struct Deriver {
+    trace: Trace,
+}
+
 impl Trace {
     // Adds the monomials of a polynomial, less their values.
     fn add_monomials(
@@ -57,9 +63,9 @@ impl Trace {
     }
 
     // The lines that the polynomial needs, its own at the end; no lines where the polynomial is zero.
-    fn into_lines(self, alloc: Global, last: Citation) -> Result<Vec<Line>, NoMemory>
-        requires stands { Stands self last }
-        ensures { (fs : List Form) (t : Table) (old : Trace) (f : Poly) → length fs < 10 ^ 18 → Derives fs t old self last f → IfOk result (λ v. AreLinesFor fs t f v.items) }
+    fn lines_to(&self, alloc: Global, last: Citation) -> Result<Vec<Line>, NoMemory>
+        requires stands { Stands self.now last }
+        ensures { (fs : List Form) (t : Table) (old : Trace) (f : Poly) → length fs < 10 ^ 18 → Derives fs t old self.now last f → IfOk result (λ v. AreLinesFor fs t f v.items) }
     {
         match last {
             Citation::Zero => Ok(Vec::new(alloc)),
@@ -93,7 +99,7 @@ pub fn derive_entry(
     };
     let mut trace = Trace::new(alloc);
     let cited = trace.product_line(&ground, b, c)?;
-    trace.into_lines(alloc, cited)
+    trace.lines_to(alloc, cited)
 }
 
 /// A derivation of a monomial within the table, less its value.
@@ -115,7 +121,48 @@ pub fn derive_monomial(
     };
     let mut trace = Trace::new(alloc);
     let cited = trace.monomial_line(&ground, m)?;
-    trace.into_lines(alloc, cited)
+    trace.lines_to(alloc, cited)
+}
+
+impl Deriver {
+    ghost use Rattle.alb_table.specs.RightTable.{RulesView};
+    ghost use Rattle.alb_trace.specs.Deriver.{IsDeriverFor};
+
+    /// Nothing is derived yet.
+    pub fn new(alloc: Global) -> Deriver
+        ensures { (r : RulesView) (t : Table) → IsRightFor r t → IsDeriverFor r t result }
+    {
+        Deriver {
+            trace: Trace::new(alloc),
+        }
+    }
+
+    /// A derivation of a polynomial to which the answer is zero.
+    pub fn derive(
+        &mut self,
+        alloc: Global,
+        rules: &Rules,
+        tables: &Tables,
+        g: &Poly,
+    ) -> Result<Vec<Line>, NoMemory>
+        requires rules { AreRules (rules_view rules.now) }
+        requires right { IsRightFor (rules_view rules.now) tables.now }
+        requires deriver { IsDeriverFor (rules_view rules.now) tables.now self.old }
+        requires residues { AreResidues tables.now.p g.now }
+        requires zero { IsAnswer tables.now.p (forms rules.now) tables.now.target tables.now.degree g.now Zero }
+        ensures lines { IfOk result (λ v. AreLinesFor (forms rules.now) tables.now g.now v.items) }
+        ensures deriver { OnOk result (IsDeriverFor (rules_view rules.now) tables.now self.new) }
+    {
+        let ground = Ground {
+            rules,
+            tables,
+            alloc,
+        };
+        let mut sum = SumBuilder::new(alloc);
+        self.trace.add_monomials(&ground, &mut sum, g)?;
+        let cited = self.trace.sum_line(alloc, &sum)?;
+        self.trace.lines_to(alloc, cited)
+    }
 }
 
 /// A derivation of a polynomial to which the answer is zero.
@@ -131,14 +178,5 @@ pub fn derive(
     requires zero { IsAnswer tables.now.p (forms rules.now) tables.now.target tables.now.degree g.now Zero }
     ensures { IfOk result (λ v. AreLinesFor (forms rules.now) tables.now g.now v.items) }
 {
-    let ground = Ground {
-        rules,
-        tables,
-        alloc,
-    };
-    let mut trace = Trace::new(alloc);
-    let mut sum = SumBuilder::new(alloc);
-    trace.add_monomials(&ground, &mut sum, g)?;
-    let cited = trace.sum_line(alloc, &sum)?;
-    trace.into_lines(alloc, cited)
+    Deriver::new(alloc).derive(alloc, rules, tables, g)
 }

@@ -17,5 +17,5 @@ mod row_key;
 mod sums;
 mod trace;
 
-pub use answers::{derive, derive_entry, derive_monomial};
+pub use answers::{Deriver, derive, derive_entry, derive_monomial};
 pub use proving::{Proof, prove};

@@ -1,4 +1,4 @@
-ghost use Rattle.std.specs.Prelude.{◌<◌, All, IfOk, IsTrue, length};
+ghost use Rattle.std.specs.Prelude.{◌<◌, All, IfOk, OnOk, IsTrue, length};
 ghost use Rattle.alb_mono.specs.Tree.{are_below};
 ghost use Rattle.alb_poly.specs.Poly.{AreResidues};
 ghost use Rattle.alb_poly.specs.Consequence.{forms};
@@ -9,7 +9,7 @@ ghost use Rattle.alb_query.specs.Views.{answer_of};
 ghost use Rattle.alb_trace.specs.Proof.{Shows, IsCounterTable, shown, CanBePrinted};
 ghost use Rattle.alb_trace.specs.TidyProof.{IsTidyProof};
 
-use crate::answers::derive;
+use crate::answers::Deriver;
 use crate::first::first_type;
 use alb_check::{RawTable, sub_table};
 use alb_deriv::Line;
@@ -52,9 +52,49 @@ fn counter_table(
     }
 }
 
-/// The answer to the question whether a polynomial follows from the identities, by a table that is right for them, and what
-/// shows it: a derivation with at most 64 items in a sum where it does; where it does not, the table of the basis elements up
-/// to the first type of the normal form.
+impl Deriver {
+    ghost use Rattle.alb_trace.specs.Deriver.{IsDeriverFor};
+
+    /// The answer to the question whether a polynomial follows from the identities, by a table that is right for them, and what
+    /// shows it: a derivation with at most 64 items in a sum where it does; where it does not, the table of the basis elements up
+    /// to the first type of the normal form.
+    pub fn prove(
+        &mut self,
+        alloc: Global,
+        rules: &Rules,
+        tables: &Tables,
+        g: &Poly,
+    ) -> Result<(Reply, Proof), NoMemory>
+        requires rules { AreRules (rules_view rules.now) }
+        requires right { IsRightFor (rules_view rules.now) tables.now }
+        requires deriver { IsDeriverFor (rules_view rules.now) tables.now self.old }
+        requires residues { AreResidues tables.now.p g.now }
+        requires known { All (λ t. IsTrue (are_below (length tables.now.target) t.1)) g.now }
+        // The answer is that of the definition, and can be printed with the letters of the generators.
+        ensures answer { IfOk result (λ r. IsAnswer tables.now.p (forms rules.now) tables.now.target tables.now.degree g.now (answer_of r.0)) }
+        ensures over { IfOk result (λ r. IsOver tables.now.p (length tables.now.target) (answer_of r.0)) }
+        // So is what shows it.
+        ensures shows { IfOk result (λ r. Shows (forms rules.now) tables.now g.now (answer_of r.0) (shown r.1)) }
+        ensures printed { IfOk result (λ r. CanBePrinted tables.now.p (length tables.now.target) r.1) }
+        // Each line but the last is cited by a later one, and no two lines are the same.
+        ensures tidy { IfOk result (λ r. IsTidyProof r.1) }
+        ensures deriver { OnOk result (IsDeriverFor (rules_view rules.now) tables.now self.new) }
+    {
+        match answer(alloc, rules, tables, g)? {
+            Reply::Zero => {
+                let lines = self.derive(alloc, rules, tables, g)?;
+                Ok((Reply::Zero, Proof::Lines(lines)))
+            }
+            Reply::NotZero(f) => {
+                let table = counter_table(alloc, rules, tables, g, &f)?;
+                Ok((Reply::NotZero(f), Proof::Table(table)))
+            }
+            other => Ok((other, Proof::Nothing)),
+        }
+    }
+}
+
+/// The same by a table of which nothing was derived yet.
 pub fn prove(
     alloc: Global,
     rules: &Rules,
@@ -74,15 +114,5 @@ pub fn prove(
     // Each line but the last is cited by a later one, and no two lines are the same.
     ensures tidy { IfOk result (λ r. IsTidyProof r.1) }
 {
-    match answer(alloc, rules, tables, g)? {
-        Reply::Zero => {
-            let lines = derive(alloc, rules, tables, g)?;
-            Ok((Reply::Zero, Proof::Lines(lines)))
-        }
-        Reply::NotZero(f) => {
-            let table = counter_table(alloc, rules, tables, g, &f)?;
-            Ok((Reply::NotZero(f), Proof::Table(table)))
-        }
-        other => Ok((other, Proof::Nothing)),
-    }
+    Deriver::new(alloc).prove(alloc, rules, tables, g)
 }

@@ -13,8 +13,8 @@ ghost use Rattle.alb_trace.specs.declared.trace.Trace.{Trace};
 use crate::origins::OriginBlock;
 use crate::row_key::RowKey;
 use alb_deriv::Line;
+use alb_keys::MonoKey;
 use alb_mono::{Mono, Multi, NoMemory};
-use alb_tidy::MonoKey;
 use indexmap::IndexMap;
 use std::alloc::Global;
 

@@ -1,4 +1,4 @@
-ghost use Rattle.std.specs.Prelude.{◌≡◌, ◌≢◌, None, Some, IfOk, Err, false, map, option_map};
+ghost use Rattle.std.specs.Prelude.{◌≡◌, ◌≢◌, ◌<◌, ◌≤◌, None, Some, IfOk, IfSome, Err, false, map, option_map};
 ghost use Rattle.clap.specs.Words.{app_of};
 ghost use Rattle.alb_words.specs.Words.{texts_of, are_taken, command_line, said, workers_in, Finds};
 
@@ -78,7 +78,8 @@ fn matches<'a>(alloc: Global, words: &'a [String]) -> Result<ArgMatches<'a>, Wor
 
 // The number of workers that a value names: 1 to 16, and two where there is no value.
 fn workers(value: Option<&str>) -> Option<u32>
-    ensures { result ≡ workers_in (option_map (λ s. s.now) value.entry) }
+    ensures value { result ≡ workers_in (option_map (λ s. s.now) value.entry) }
+    ensures range { IfSome result (λ n. (0 < n) × (n ≤ 16)) }
 {
     let Some(text) = value else {
         return Some(2);
@@ -94,6 +95,7 @@ fn workers(value: Option<&str>) -> Option<u32>
 /// unless they are that one byte. `Usage` comes where the words are none of these.
 pub fn read_words<'a>(alloc: Global, words: &'a [String]) -> Result<Words<'a>, WordsFault>
     ensures said { IfOk result (λ w. said (texts_of words.now) ≡ Some (record { workers = w.workers; others = map (λ s. s.now) w.others.items })) }
+    ensures workers { IfOk result (λ w. (0 < w.workers) × (w.workers ≤ 16)) }
     ensures usage { result ≡ Err WordsFault.Usage → said (texts_of words.now) ≡ None }
 {
     let found = matches(alloc, words)?;

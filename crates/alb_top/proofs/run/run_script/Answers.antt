@@ -23,7 +23,7 @@ turns-init g c = record {
 }
 
 pub take_turn-requires-clause-sound : goal.take_turn-requires-clause-sound
-take_turn-requires-clause-sound g c = Going-sound (state c.args.first) (opening-sound c.args.first c.requires.opening c.requires.script) _ _ _ _ _ _ c.turns.invariant.going
+take_turn-requires-clause-sound g c κs below = Going-sound (state c.args.first) (opening-sound c.args.first c.requires.opening c.requires.script) _ _ _ _ _ _ c.turns.invariant.going
 
 pub returns-in-Err-clause-outcome : goal.returns-in-Err-clause-outcome
 returns-in-Err-clause-outcome g c =

@@ -5,7 +5,8 @@ use Rattle.alb_problem.specs.Builder.{Builder, identity_refusal, ProblemRefusal}
 use Rattle.alb_top.specs.Script.{Response, Numbered, unless}
 use Rattle.alb_top.specs.View.{response_of, IsWritten}
 use Rattle.alb_top.specs.declared.response.Response as Rust
-use Rattle.alb_top.proofs.RefusalLemmas.{IsRefusal, refused-unless, identity-known}
+use Rattle.alb_script.proofs.ToldLemmas.{identity-known}
+use Rattle.alb_top.proofs.RefusalLemmas.{IsRefusal, refused-unless}
 use Rattle.alb_top.proofs.statement.add_identity.Goals as goal
 
 record Refuses (r : Result Rust.Response NoMemory) (old now : Builder) (found : Option ProblemRefusal) (taken : Response) (new : Builder) : Type 0 where

@@ -10,8 +10,8 @@ product_line-requires-clause-trace c = c.new-trace.ensures (forms c.args.rules.n
 pub product_line-requires-clause-product : goal.product_line-requires-clause-product
 product_line-requires-clause-product c = product-of c.args.tables.now c.args.b c.args.c c.requires.right.table c.requires.left_factor c.requires.right_factor c.requires.covered
 
-pub into_lines-requires : goal.into_lines-requires
-into_lines-requires c = record { stands = derived-stands (forms c.args.rules.now) c.args.tables.now c.new-trace.result c.product_line.new.self c.in_ok-cited.cited (product_less c.args.tables.now (c.args.b, c.args.c)) c.in_ok-cited.ensures }
+pub lines_to-requires : goal.lines_to-requires
+lines_to-requires c = record { stands = derived-stands (forms c.args.rules.now) c.args.tables.now c.new-trace.result c.product_line.new.self c.in_ok-cited.cited (product_less c.args.tables.now (c.args.b, c.args.c)) c.in_ok-cited.ensures }
 
 pub returns : goal.returns
-returns c = c.into_lines.ensures (forms c.args.rules.now) c.args.tables.now c.new-trace.result (product_less c.args.tables.now (c.args.b, c.args.c)) (forms-few c.args.rules.now c.requires.rules) c.in_ok-cited.ensures
+returns c = c.lines_to.ensures (forms c.args.rules.now) c.args.tables.now c.new-trace.result (product_less c.args.tables.now (c.args.b, c.args.c)) (forms-few c.args.rules.now c.requires.rules) c.in_ok-cited.ensures

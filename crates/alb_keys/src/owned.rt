@@ -1,10 +1,9 @@
-//! Monomials as keys of maps and sets.
 ghost use Rattle.std.specs.Cmp.{on_equiv, partial_equiv_from_equiv};
 ghost use Rattle.std.specs.Hash.{on_Alike, same_Alike};
 ghost use Rattle.alb_mono.specs.Tree.{tree, same_tree};
-ghost use Rattle.alb_tidy.specs.SameLine.{same_tree-equivalence, tree-Decides, tree_writes};
+ghost use Rattle.alb_keys.specs.SameTree.{same_tree-equivalence, tree-Decides, tree_writes};
 
-use crate::key::feed_mono;
+use crate::feed::feed_mono;
 use alb_mono::Mono;
 use std::hash::{Hash, Hasher};
 

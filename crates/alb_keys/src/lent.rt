@@ -1,0 +1,39 @@
+ghost use Rattle.std.specs.Cmp.{on_equiv, partial_equiv_from_equiv};
+ghost use Rattle.std.specs.Hash.{on_Alike, same_Alike};
+ghost use Rattle.alb_mono.specs.Tree.{tree, same_tree};
+ghost use Rattle.alb_keys.specs.SameTree.{same_tree-equivalence, tree-Decides, tree_writes};
+
+use crate::feed::feed_mono;
+use alb_mono::Mono;
+use std::hash::{Hash, Hasher};
+
+/// A monomial that is lent to a map. Two are equal exactly where they are the same monomial.
+#[derive(Clone, Copy)]
+pub struct LentMono<'a> {
+    /// The monomial.
+    pub mono: &'a Mono,
+}
+
+impl PartialEq for LentMono<'_> {
+    ghost eq = { λ x y. same_tree (tree x.mono.now) (tree y.mono.now) };
+
+    ghost laws = { partial_equiv_from_equiv (on_equiv (λ x. tree x.mono.now) same_tree-equivalence) };
+
+    fn eq(&self, other: &LentMono) -> bool {
+        self.mono.is_same(other.mono)
+    }
+}
+
+impl Eq for LentMono<'_> {
+    ghost laws = { on_equiv (λ x. tree x.mono.now) same_tree-equivalence };
+}
+
+impl Hash for LentMono<'_> {
+    ghost hash_input = { λ x. tree_writes (tree x.mono.now) };
+
+    ghost respects_eq = { (on_Alike (λ x. tree x.mono.now) (same_Alike tree_writes tree-Decides)).fed };
+
+    fn hash<H: Hasher>(&self, state: &mut H) {
+        feed_mono(self.mono, state);
+    }
+}

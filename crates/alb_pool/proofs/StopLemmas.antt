@@ -1,0 +1,13 @@
+-- An end that is no want of memory.
+use Rattle.std.proofs.Common.{◌≢◌, List, refl}
+use Rattle.alb_poly.specs.Instance.{Form}
+use Rattle.alb_table.specs.End.{End, Complete, TooWide, TooManyProducts, TooManyCoefficients, NoMemory, IsEnd}
+use Rattle.alb_table.specs.Table.{Table}
+use Rattle.alb_pool.specs.Stops.{IsStop}
+
+pub end-of-stop : (fs : List Form) (t : Table) (e : End) → IsStop fs t e → e ≢ NoMemory → IsEnd fs t e
+end-of-stop fs t Complete s n = s
+end-of-stop fs t (TooWide w m) s n = s
+end-of-stop fs t (TooManyProducts m) s n = s
+end-of-stop fs t (TooManyCoefficients m) s n = s
+end-of-stop fs t NoMemory s n = absurd (n refl)

@@ -1,0 +1,17 @@
+use Rattle.alb_io.proofs.Writers.{Writes-exit, Writes-more, Writes-then}
+use Rattle.alb_sampling.proofs.sample.write_sample.Goals as goal
+
+pub returns-in_err-write_named : goal.returns-in_err-write_named
+returns-in_err-write_named g c = Writes-exit _ _ c.from_residual.ensures.1 (Writes-more _ c.in_err-write_named.ensures)
+
+pub returns-in_err-write_named-2 : goal.returns-in_err-write_named-2
+returns-in_err-write_named-2 g c =
+    Writes-exit _ _ c.from_residual-in_err-write_named-2.ensures.1 (Writes-then c.in_ok-write_named.ensures (Writes-more _ c.in_err-write_named-2.ensures))
+
+pub returns-in_err-write_named-3 : goal.returns-in_err-write_named-3
+returns-in_err-write_named-3 g c =
+    Writes-exit _ _ c.from_residual-in_err-write_named-3.ensures.1
+    (Writes-then c.in_ok-write_named.ensures (Writes-then c.in_ok-write_named-2.ensures (Writes-more _ c.in_err-write_named-3.ensures)))
+
+pub returns : goal.returns
+returns g c = Writes-then c.in_ok-write_named.ensures (Writes-then c.in_ok-write_named-2.ensures (Writes-then c.in_ok-write_named-3.ensures c.write_size.ensures))
