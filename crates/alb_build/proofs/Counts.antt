@@ -94,7 +94,7 @@ types-few (x ∷ xs) d =
     let e : 2 ^ sum (x ∷ xs) ≡ 2 ^ x * m = ap (λ n. 2 ^ n) (sum-cons x xs) ∙ pow-add 2 x (sum xs) in
     omega arith
 
-power-most : (s n : ℕ) → s ≤ n → 2 ^ s ≤ 2 ^ n
+pub power-most : (s n : ℕ) → s ≤ n → 2 ^ s ≤ 2 ^ n
 power-most s n l =
     let z : s + (n - s) ≡ n = omega arith in
     let e : 2 ^ n ≡ 2 ^ s * 2 ^ (n - s) = ap (λ k. 2 ^ k) (sym z) ∙ pow-add 2 s (n - s) in

@@ -22,3 +22,4 @@ pub mod NextTable
 pub mod MadeParts
 pub mod EndLemmas
 pub mod Few
+pub mod Counting

@@ -5,6 +5,7 @@ ghost use Rattle.alb_table.specs.RightTable.{rules_view, IsRightFor};
 ghost use Rattle.alb_block.specs.View.{block_view};
 ghost use Rattle.alb_build.specs.Next.{AreBlocks, GrowsTo};
 
+use crate::ahead::MOST_PRODUCTS;
 use crate::count::{count_part_cells, count_products};
 use crate::part::parts_of;
 use crate::stop::GrowStop;
@@ -13,9 +14,7 @@ use alb_poly::Rules;
 use alb_table::Tables;
 use std::alloc::Global;
 
-// How many products and how many coefficients that are not 0 a table may have.
-const MOST_PRODUCTS: u64 = 1_000_000;
-
+// How many coefficients that are not 0 a table may have.
 const MOST_COEFFICIENTS: u64 = 16_777_216;
 
 /// The table right for the rules to the next degree, from a table that is right for the rules and below its target's degree,

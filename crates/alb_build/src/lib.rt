@@ -3,6 +3,7 @@
 //! 22, 1991).
 #![tactic(auto)]
 
+mod ahead;
 mod build;
 mod count;
 mod entry;
@@ -12,6 +13,7 @@ mod part;
 mod step;
 mod stop;
 
+pub use ahead::limit_ahead;
 pub use build::{Built, build_all};
 pub use growth::grow;
 pub use stop::GrowStop;

@@ -6,6 +6,7 @@ ghost use Rattle.alb_table.specs.RightTable.{rules_view, AreRules, IsRightFor};
 ghost use Rattle.alb_block.specs.View.{block_view};
 ghost use Rattle.alb_build.specs.Next.{AreBlocks, IsWideStop, StepsTo};
 
+use crate::ahead::limit_ahead;
 use crate::growth::grow;
 use crate::stop::GrowStop;
 use alb_block::{Block, BlockStop, reduce_block};
@@ -54,6 +55,9 @@ pub(crate) fn next_step(alloc: Global, rules: &Rules, tables: &Tables) -> Result
     requires room { tables.now.degree < sum tables.now.target }
     ensures { IfOk result (StepsTo (rules_view rules.now) tables.now) }
 {
+    if let Some(end) = limit_ahead(alloc, tables)? {
+        return Ok(Step::Ended(end));
+    }
     let blocks = match next_blocks(alloc, rules, tables) {
         Ok(blocks) => blocks,
         Err(BlockStop::TooWide { at, products }) => {

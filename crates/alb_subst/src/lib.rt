@@ -14,4 +14,5 @@ mod tuples;
 pub use columns::Columns;
 pub use error::ColumnsStop;
 pub use instances::Instances;
+pub use products::count_of_type;
 pub use row::row_of;

@@ -2,10 +2,10 @@
 ghost use Rattle.std.specs.Prelude.{◌≡◌, ℕ, ◌+◌, ◌*◌, ◌<◌, ◌^◌, ◌++◌, length, map, IfOk, OnOk};
 ghost use Rattle.gf_sums.specs.Sums.{total};
 ghost use Rattle.alb_mono.specs.Tree.{rising};
-ghost use Rattle.alb_table.specs.Table.{rectangle, elems, products_of};
+ghost use Rattle.alb_table.specs.Table.{rectangle, elems, products_of, wide};
 ghost use Rattle.alb_subst.specs.Products.{split_size};
 
-use alb_mono::{Multi, NoMemory};
+use alb_mono::{Multi, NoMemory, splits};
 use alb_table::Tables;
 use std::alloc::Global;
 
@@ -19,6 +19,15 @@ pub(crate) fn count_products(tables: &Tables, pairs: &[(Multi, Multi)]) -> u64
         count += u64::from(tables.dimension(&pair.0)) * u64::from(tables.dimension(&pair.1));
     }
     count
+}
+
+/// How many products of two basis elements have the type `t`.
+pub fn count_of_type(alloc: Global, tables: &Tables, t: &Multi) -> Result<u64, NoMemory>
+    ensures { IfOk result (λ n. n ≡ wide tables.now t.now) }
+{
+    prove!(tables.degree() > 0);
+    let pairs = splits(alloc, t)?;
+    Ok(count_products(tables, &pairs))
 }
 
 // Appends the pairs of b with `count` numbers from `first` on.

@@ -1,4 +1,6 @@
-use Rattle.std.proofs.Common.{map}
+use Rattle.std.proofs.Common.{List, map}
+use Rattle.alb_poly.specs.Instance.{Form}
+use Rattle.alb_table.specs.End.{IsEnd, end_of}
 use Rattle.alb_block.specs.View.{block_view}
 use Rattle.alb_poly.specs.Consequence.{forms}
 use Rattle.alb_table.specs.Table.{next_types}
@@ -25,3 +27,8 @@ returns-in-Err-TooManyCoefficients c =
       next = h.next;
       many = h.many;
     }
+
+pub returns-in-Some : goal.returns-in-Some
+returns-in-Some c =
+    let h : (fs : List Form) → IsEnd fs c.args.tables.now (end_of c.in-Some.end) = rw c.in-Some.is at c.in_ok-end.ensures.end in
+    h (forms c.args.rules.now)
