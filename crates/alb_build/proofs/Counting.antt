@@ -28,9 +28,9 @@ module _ (t : Table) where
       let e : nat_lt most_of_type (wide t x) ≡ false = grind (arith, nat_tests) in
       rw e refl
   narrow-more (x ∷ ws) (suc k) w l g m h = elim (cases_Bool (nat_lt most_of_type (wide t x))) [
-        inl e ↦ absurd (let z : Some x ≡ None = rw e at h in cc)
-      | inr e ↦ rw e (narrow-more ws k w (omega arith) g m (rw e at h))
-      ]
+    | inl e ↦ absurd (let z : Some x ≡ None = rw e at h in cc)
+    | inr e ↦ rw e (narrow-more ws k w (omega arith) g m (rw e at h))
+  ]
 
   -- the first type that has too many products
   pub first-after : (ws : List (List ℕ)) (k : ℕ) (w : List ℕ) → k < length ws → get_or ws k w ≡ w → 4096 < wide t w → first_wide t (take k ws) ≡ None → first_wide t ws ≡ Some w
@@ -40,9 +40,9 @@ module _ (t : Table) where
       let e : nat_lt most_of_type (wide t x) ≡ true = grind (arith, nat_tests) in
       rw e (ap Some g)
   first-after (x ∷ ws) (suc k) w l g m h = elim (cases_Bool (nat_lt most_of_type (wide t x))) [
-        inl e ↦ absurd (let z : Some x ≡ None = rw e at h in cc)
-      | inr e ↦ rw e (first-after ws k w (omega arith) g m (rw e at h))
-      ]
+    | inl e ↦ absurd (let z : Some x ≡ None = rw e at h in cc)
+    | inr e ↦ rw e (first-after ws k w (omega arith) g m (rw e at h))
+  ]
 
   -- one more type
   pub counted-more : (ws : List (List ℕ)) (k n m : ℕ) (w : List ℕ) → k < length ws → get_or ws k w ≡ w → m ≡ wide t w → m ≤ 4096 → IsCounted t ws k n → IsCounted t ws (suc k) (n + m)

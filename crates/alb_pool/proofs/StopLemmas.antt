@@ -11,3 +11,10 @@ end-of-stop fs t (TooWide w m) s n = s
 end-of-stop fs t (TooManyProducts m) s n = s
 end-of-stop fs t (TooManyCoefficients m) s n = s
 end-of-stop fs t NoMemory s n = absurd (n refl)
+
+pub stop-of-end : (fs : List Form) (t : Table) (e : End) → IsEnd fs t e → IsStop fs t e
+stop-of-end fs t Complete h = h
+stop-of-end fs t (TooWide w n) h = h
+stop-of-end fs t (TooManyProducts n) h = h
+stop-of-end fs t (TooManyCoefficients n) h = h
+stop-of-end fs t NoMemory h = tt

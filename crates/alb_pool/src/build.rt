@@ -9,7 +9,7 @@ ghost use Rattle.alb_pool.specs.Stops.{IsStop};
 
 use crate::blocks::par_blocks;
 use alb_block::BlockStop;
-use alb_build::{Built, GrowStop, grow};
+use alb_build::{Built, GrowStop, grow, limit_ahead};
 use alb_mono::NoMemory;
 use alb_poly::Rules;
 use alb_table::{BuildEnd, Tables};
@@ -32,6 +32,11 @@ fn next_tables<R: Threads + Sync>(
     ensures grown { IfOk result (IsGrown (rules_view rules.now) tables.now) }
     ensures stopped { IfErr result (λ e. IsStop (forms rules.now) tables.now (end_of e)) }
 {
+    match limit_ahead(alloc, tables) {
+        Ok(None) => {}
+        Ok(Some(end)) => return Err(end),
+        Err(NoMemory) => return Err(BuildEnd::NoMemory),
+    }
     let blocks = match par_blocks(rt, alloc, rules, tables, workers) {
         Ok(blocks) => blocks,
         Err(BlockStop::TooWide { at, products }) => {
