@@ -279,27 +279,12 @@ impl Script {
         ensures writable { IfOk result (λ r. IsWritable (state r.1) r.0) }
         ensures script { IfOk result (λ r. IsScript r.1) }
     {
-        let Script {
-            mode,
-            workers,
-            form,
-            stage,
-            closed,
-            clean,
-        } = self;
-        let Stage::Asking(mut topic) = stage else {
+        let mut next = self;
+        let Stage::Asking(topic) = &mut next.stage else {
             unreachable!();
         };
         let question = question_in(command);
         let finding = topic.answer(alloc, &question)?;
-        let next = Script {
-            mode,
-            workers,
-            form,
-            stage: Stage::Asking(topic),
-            closed,
-            clean,
-        };
         Ok((Response::Found(finding), next))
     }
 
