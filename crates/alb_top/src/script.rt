@@ -217,27 +217,12 @@ impl Script {
         ensures written { IfOk result (λ r. IsWritten r.0) }
         ensures script { IfOk result (λ r. IsScript r.1) }
     {
-        let Script {
-            mode,
-            workers,
-            form,
-            stage,
-            closed,
-            clean,
-        } = self;
-        let Stage::Stating(mut builder) = stage else {
+        let mut next = self;
+        let Stage::Stating(builder) = &mut next.stage else {
             unreachable!();
         };
-        let response = state_problem(&mut builder, command)?;
-        let is_clean = response.is_clean();
-        let next = Script {
-            mode,
-            workers,
-            form,
-            stage: Stage::Stating(builder),
-            closed,
-            clean: is_clean && clean,
-        };
+        let response = state_problem(builder, command)?;
+        next.clean = response.is_clean() && next.clean;
         Ok((response, next))
     }
 
