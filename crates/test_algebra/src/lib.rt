@@ -1,4 +1,4 @@
-//! Tests of the crates of the algebra: linearized identities, problems, derivations, rows and their elimination.
+//! Tests of the crates of the algebra: linearized identities, problems, derivations, rows and their elimination, kernels over slices.
 #![tactic(auto)]
 
 #[cfg(test)]
@@ -7,6 +7,8 @@ mod derivations;
 mod elimination;
 #[cfg(test)]
 mod identities;
+#[cfg(test)]
+mod lanes;
 #[cfg(test)]
 mod problems;
 #[cfg(test)]

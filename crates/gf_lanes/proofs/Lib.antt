@@ -1,0 +1,4 @@
+pub mod LaneLemmas
+pub mod LoopLemmas
+pub mod TableLemmas
+pub mod ZeroLemmas

@@ -1,0 +1,5 @@
+use Rattle.std.proofs.lemmas.Simd.{get_or-replicate}
+use Rattle.gf_lanes.proofs.vectors.splat_wide.Goals as goal
+
+pub returns-clause-value : goal.returns-clause-value
+returns-clause-value c i l = get_or-replicate 32 i c.args.x 0 l
