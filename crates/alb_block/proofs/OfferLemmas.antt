@@ -3,12 +3,14 @@ use Rattle.std.proofs.Common.{◌≡◌, ℕ, zero, suc, ◌+◌, ◌*◌, ◌%�
 use Rattle.std.proofs.lemmas.Bool.{cases_eq, cases_lt}
 use Rattle.gf_field.specs.Modular.{IsSameMod}
 use Rattle.gf_field.proofs.Mod.{same}
-use Rattle.gf_sums.specs.Sums.{Comb, coefficient}
+use Rattle.gf_sums.specs.Sums.{Comb, coefficient, AreSame}
+use Rattle.gf_sums.proofs.Alike.{same-alike}
 use Rattle.alb_mono.specs.Listing.{Each, IsIn}
 use Rattle.alb_mono.proofs.ListingLemmas.{each-weaker, each-append, each-member, in-left, in-right}
 use Rattle.alb_poly.specs.Consequence.{form_at, form}
 use Rattle.alb_poly.specs.Instance.{Form}
 use Rattle.alb_poly.specs.declared.rules.Linear.{Linear}
+use Rattle.alb_linear.specs.Runs.{AreRuns}
 use Rattle.alb_rows.specs.Row.{Cells, ColumnsBelow, entry}
 use Rattle.alb_rows.proofs.RowLemmas.{entry_past}
 use Rattle.alb_table.specs.Table.{same_pair, origin_view}
@@ -18,15 +20,19 @@ use Rattle.alb_rows.specs.Span.{combination, InSpan, SpanWithin, SameSpan, IsPiv
 use Rattle.alb_rows.proofs.SpanLemmas.{mod_add, mod_mul, span_zero, span_one, span_same, span_through, pivot_through, spans_turned, spans_joined}
 use Rattle.alb_reduce.specs.Reduction.{Reduction, kept, AddsPivot}
 use Rattle.alb_subst.specs.Sums.{HasEntries, instance_row}
-use Rattle.alb_subst.specs.Tuples.{IsTupleOf, AreTuples}
+use Rattle.alb_subst.specs.Tuples.{IsTupleOf, IsLeastTuple, AreLeastTuples}
+use Rattle.alb_subst.proofs.SumLemmas.{pairs_tell}
+use Rattle.alb_subst.proofs.RowLaw.{LeastOf, least-of}
 use Rattle.alb_block.specs.Instances.{columns_of, BlockSetting, IsInstance, vector_over, instance_vector, all_instances, listed_instances, SpansInstances, AreOrigins}
 use Rattle.alb_block.specs.Offers.{AreDifferent, HasPivots, IsRowOf, AreKept, HasBefore, HasMore}
 use Rattle.alb_block.proofs.ListLemmas.{in_place, place_in}
 
--- what is still to come of the form k: the span has its instances but for some tuples
+-- what is still to come of the form k: the span has its instances at tuples that never fall within a run, but for some of them
 pub record Lacks (s : BlockSetting) (r : Reduction) (k : ℕ) (tuples : List (List ℕ)) : Type 0 where
+  pub runs : List ℕ
+  pub are_runs : AreRuns s.p (form_at s.forms k) runs
   pub each : Each (IsTupleOf s.parts (form_at s.forms k).degree s.at) tuples
-  pub others : (x : List ℕ) → IsTupleOf s.parts (form_at s.forms k).degree s.at x → IsIn x tuples ⊎ InSpan s.p (kept r) (instance_vector s (k, x))
+  pub others : (x : List ℕ) → IsLeastTuple s.parts (form_at s.forms k).degree s.at runs x → IsIn x tuples ⊎ InSpan s.p (kept r) (instance_vector s (k, x))
 
 -- ---- counting
 
@@ -236,6 +242,8 @@ kept-nothing s r e w n z = record {
 -- one more tuple of a form
 pub lacks-less : (s : BlockSetting) (old new : Reduction) (k : ℕ) (x : List ℕ) (tuples : List (List ℕ)) → Lacks s old k (x ∷ tuples) → HasMore s old new (k, x) → Lacks s new k tuples
 lacks-less s old new k x tuples l m = record {
+  runs = l.runs;
+  are_runs = l.are_runs;
   each = l.each.1;
   others = λ y h. elim (l.others y h) [
     | inl (inl e) ↦ inr (subst (λ z. InSpan s.p (kept new) (instance_vector s (k, z))) (sym e) m.has)
@@ -247,13 +255,28 @@ lacks-less s old new k x tuples l m = record {
 pub before-more : (s : BlockSetting) (old new : Reduction) (k : ℕ) (name : ℕ × List ℕ) → HasBefore s old k → HasMore s old new name → HasBefore s new k
 before-more s old new k name b m n h l = span_through s.p (kept old) (kept new) (instance_vector s n) m.within (b n h l)
 
+-- equal combinations have one vector
+vector-same : (p : ℕ) (cols : List (ℕ × ℕ)) (f g : Comb (ℕ × ℕ)) → AreSame same_pair p f g → (j : ℕ) → vector_over cols f j % p ≡ vector_over cols g j % p
+vector-same p [] f g h j = refl
+vector-same p (q ∷ cols) f g h zero = (h q).same
+vector-same p (q ∷ cols) f g h (suc j) = vector-same p cols f g h j
+
+-- where the tuples that never fall within a run are done, all are
+all-done : (s : BlockSetting) (r : Reduction) (k : ℕ) (x : List ℕ) → Lacks s r k [] → IsTupleOf s.parts (form_at s.forms k).degree s.at x → InSpan s.p (kept r) (instance_vector s (k, x))
+all-done s r k x l h =
+    let w : LeastOf s.p s.parts (form_at s.forms k) s.at l.runs x = least-of s.p s.parts (form_at s.forms k) s.at l.runs x l.are_runs h in
+    elim (l.others w.least w.is) [
+      | inl i ↦ absurd i
+      | inr d ↦ span_same s.p (kept r) (instance_vector s (k, w.least)) (instance_vector s (k, x))
+          (vector-same s.p (columns_of s.parts s.at) (instance_row s.parts (form_at s.forms k) w.least) (instance_row s.parts (form_at s.forms k) x)
+          (same-alike same_pair pairs_tell w.same)) d
+    ]
+
 -- a form is done
 pub before-next : (s : BlockSetting) (r : Reduction) (k : ℕ) → HasBefore s r k → Lacks s r k [] → HasBefore s r (k + 1)
 before-next s r k b l n h m = elim (cases_eq n.0 k) [
-  | inl e ↦ (elim (l.others n.1 (subst (λ i. IsTupleOf s.parts (form_at s.forms i).degree s.at n.1) e h.tuple)) [
-    | inl i ↦ absurd i
-    | inr d ↦ subst (λ i. InSpan s.p (kept r) (instance_vector s (i, n.1))) (sym e) d
-  ])
+  | inl e ↦ subst (λ i. InSpan s.p (kept r) (instance_vector s (i, n.1))) (sym e)
+      (all-done s r k n.1 l (subst (λ i. IsTupleOf s.parts (form_at s.forms i).degree s.at n.1) e h.tuple))
   | inr ne ↦ b n h (omega arith)
 ]
 
@@ -314,10 +337,14 @@ pub item-form : (P : Form → Type 0) (ls : List Linear) (k : ℕ) (l : Linear) 
 item-form P ls k l a h e = subst P (sym (form_item ls k l h e)) (each_at_place P (map form ls) k a (omega (arith, length-map ls form)))
 
 -- the instances of a form, before one is offered
-pub lacks-all : (s : BlockSetting) (r : Reduction) (k : ℕ) (f : Form) (tuples : List (List ℕ)) → f ≡ form_at s.forms k → AreTuples s.parts f.degree s.at tuples → Lacks s r k tuples
-lacks-all s r k f tuples e a = record {
-  each = subst (λ g. Each (IsTupleOf s.parts g.degree s.at) tuples) e a.each;
-  others = λ x h. inl (a.all x (subst (λ g. IsTupleOf s.parts g.degree s.at x) (sym e) h));
+pub lacks-all : (s : BlockSetting) (r : Reduction) (k : ℕ) (f : Form) (runs : List ℕ) (tuples : List (List ℕ)) → f ≡ form_at s.forms k → AreRuns s.p f runs →
+    AreLeastTuples s.parts f.degree s.at runs tuples → Lacks s r k tuples
+lacks-all s r k f runs tuples e q a = record {
+  runs = runs;
+  are_runs = subst (λ g. AreRuns s.p g runs) e q;
+  each = subst (λ g. Each (IsTupleOf s.parts g.degree s.at) tuples) e
+      (each-weaker (IsLeastTuple s.parts f.degree s.at runs) (IsTupleOf s.parts f.degree s.at) tuples (λ x h. h.tuple) a.each);
+  others = λ x h. inl (a.all x (subst (λ g. IsLeastTuple s.parts g.degree s.at runs x) (sym e) h));
 }
 
 -- one more origin

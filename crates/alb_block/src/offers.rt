@@ -11,6 +11,7 @@ ghost use Rattle.alb_table.specs.RightTable.{rules_view, AreRules, IsRightFor};
 ghost use Rattle.alb_block.specs.Instances.{BlockSetting, IsInstance, columns_of};
 ghost use Rattle.alb_block.specs.Offers.{setting_from, IsRowOf, AreKept, HasBefore, HasMore};
 
+use alb_linear::places;
 use alb_mono::{Multi, NoMemory};
 use alb_poly::Rules;
 use alb_reduce::{Echelon, Offered};
@@ -67,7 +68,7 @@ fn offer_row(
     }
 }
 
-// Offers all instances of the form k.
+// Offers the instances of the form k at the tuples that never fall within a run of positions. They have the span of all.
 fn offer_form(alloc: Global, from: &Sources, k: u32, offers: Offers) -> Result<Offers, NoMemory>
     requires rules { AreRules (rules_view from.now.rules.now) }
     requires right { IsRightFor (rules_view from.now.rules.now) from.now.tables.now }
@@ -82,7 +83,9 @@ fn offer_form(alloc: Global, from: &Sources, k: u32, offers: Offers) -> Result<O
 {
     let f = &from.rules.linears[k as usize];
     let mut offers = offers;
-    let mut instances = Instances::open(alloc, from.tables, f, from.at)?;
+    let runs = places(alloc, from.tables.field(), f)?;
+    let least = runs.as_slice();
+    let mut instances = Instances::open_least(alloc, from.tables, f, from.at, least)?;
     while let Some(tuple) = instances.next(from.tables) {
         let row = row_of(alloc, from.tables, f, tuple.as_slice(), from.columns)?;
         offers = offer_row(offers, row, k, tuple)?;

@@ -2,3 +2,4 @@ pub mod OrderLemmas
 pub mod IdentityLemmas
 pub mod LinearLemmas
 pub mod LawLemmas
+pub mod RunLemmas

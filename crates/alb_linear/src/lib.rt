@@ -7,9 +7,11 @@ mod instances;
 pub mod laws;
 mod linearization;
 mod orders;
-mod places;
+mod positions;
+mod runs;
 
 pub use error::IdentityError;
 pub use identity::Identity;
 pub use instances::instance;
 pub use linearization::linearize;
+pub use runs::places;

@@ -8,7 +8,7 @@ ghost use Rattle.alb_linear.specs.Identity.{IsIdentity, Linearizes, factorial, f
 
 use crate::identity::leading_type;
 use crate::orders::arrangements;
-use crate::places::Places;
+use crate::positions::Places;
 use crate::{Identity, IdentityError};
 use alb_mono::{Mono, NoMemory};
 use alb_poly::{Linear, Poly, Term};

@@ -2,7 +2,7 @@ ghost use Rattle.std.specs.Prelude.{◌≡◌, ◌+◌, ◌<◌, ◌≤◌, ◌+
 ghost use Rattle.std.specs.List.{flat_map};
 ghost use Rattle.alb_poly.specs.Instance.{arrangements, insertions, orders};
 
-use crate::places::Places;
+use crate::positions::Places;
 use alb_mono::NoMemory;
 use std::alloc::Global;
 

@@ -100,9 +100,3 @@ gone_on rs t current new m false g e l f h =
       ap (λ ts. current ∷ ts) (after-last (tuples rs (length current) t) current a n),
       record { rises = g.rises; long = g.long; fit = g.fit; few = subst (λ k. k ≤ 8) (sym l) g.few; tuple = λ b. absurd (cc) },
     )
-
--- the tuple that is given comes first
-pub given : (rs us : List Range) (t current tuple new : List ℕ) (more next : Bool) (old : List (List ℕ)) → to_come rs t current more ≡ old → more ≡ true → us ≡ rs → tuple ≡ current →
-    to_come us t current true ≡ current ∷ to_come us t new next → old ≡ tuple ∷ to_come rs t new next
-given rs us t current tuple new more next old v m e i k =
-    sym v ∙ ap (to_come rs t current) m ∙ ap (λ w. to_come w t current true) (sym e) ∙ k ∙ ap (λ w. current ∷ to_come w t new next) e ∙ ap (λ x. x ∷ to_come rs t new next) (sym i)

@@ -8,3 +8,5 @@ pub mod ComeLemmas
 pub mod ProductLemmas
 pub mod SumLemmas
 pub mod InstanceLemmas
+pub mod LeastLemmas
+pub mod RowLaw

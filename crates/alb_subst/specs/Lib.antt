@@ -3,3 +3,4 @@ pub mod Ranges
 pub mod Products
 pub mod Columns
 pub mod Sums
+pub mod Laws

@@ -1,12 +1,13 @@
 -- How tuples are enumerated: by ranges of numbers, one for each type. Contracts of private functions alone speak of it, and what an
 -- `Instances` keeps.
 use Rattle.std.specs.Prelude.{◌≡◌, ℕ, zero, suc, ◌+◌, ◌-◌, ◌<◌, ◌≤◌, ◌==◌, nat_le, nat_lt, Bool, true, ◌&&◌, ◌^◌, if◌then◌else◌, List, [], ◌∷◌, ◌++◌, map, sum, length}
-use Rattle.std.specs.List.{flat_map}
+use Rattle.std.specs.List.{flat_map, filter}
 use Rattle.alb_mono.specs.Tree.{type_le, rising, type_minus}
 use Rattle.alb_mono.specs.Listing.{Each, IsIn}
 use Rattle.alb_poly.specs.Poly.{list_eq}
 use Rattle.alb_table.specs.Table.{PartView, first_of, dim_of, types_to}
 use Rattle.alb_subst.specs.declared.range.Range.{Range}
+use Rattle.alb_subst.specs.Tuples.{rises_within}
 
 -- each of c numbers from f on before each of the lists
 abbrev pub begins : ℕ → ℕ → List (List ℕ) → List (List ℕ)
@@ -83,3 +84,7 @@ pub record IsGoing (rs : List Range) (t current : List ℕ) (more : Bool) : Type
 -- the tuples that come
 abbrev pub to_come : List Range → List ℕ → List ℕ → Bool → List (List ℕ)
 to_come rs t current more = if more then current ∷ after current (tuples rs (length current) t) else []
+
+-- those of them whose numbers never fall within a run
+abbrev pub least_to_come : List Range → List ℕ → List ℕ → List ℕ → Bool → List (List ℕ)
+least_to_come rs t runs current more = filter (rises_within runs 0) (to_come rs t current more)

@@ -5,6 +5,7 @@
 mod columns;
 mod error;
 mod instances;
+pub mod laws;
 mod products;
 mod range;
 mod row;

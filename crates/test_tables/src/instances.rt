@@ -1,8 +1,9 @@
-ghost use Rattle.std.specs.Prelude.{◌≤◌};
+ghost use Rattle.std.specs.Prelude.{◌≤◌, length};
 ghost use Rattle.alb_poly.specs.Consequence.{form};
 ghost use Rattle.alb_linear.specs.Identity.{IsLinearized};
 
 use crate::building::built;
+use alb_linear::places;
 use alb_mono::Multi;
 use alb_poly::Linear;
 use alb_rows::Row;
@@ -41,6 +42,54 @@ fn tries_all_orders_of_three_generators(rt: HostRuntime) -> Result<(), Fail> {
     assert!(rt; all.as_slice() == ORDERS.as_slice());
     let none = tuples(alloc, &tables, &f, &Multi::of(&[1, 1, 0]))?;
     assert!(rt; none.is_empty());
+    Ok(())
+}
+
+// The tuples that never fall within a run of positions, at most a hundred, one after the other.
+fn least_tuples(
+    alloc: Global,
+    tables: &Tables,
+    f: &Linear,
+    t: &Multi,
+    runs: &[u8],
+) -> Result<Vec<u32>, Fail>
+    requires few { f.now.degree ≤ 8 }
+    requires few_runs { length runs.now ≤ 8 }
+{
+    if t.counts().len() != tables.target().counts().len() || !t.le(tables.target()) {
+        return Err("no type of the table".into());
+    }
+    let mut instances = Instances::open_least(alloc, tables, f, t, runs)?;
+    let mut all = Vec::new(alloc);
+    for _ in 0..100 {
+        match instances.next(tables) {
+            None => return Ok(all),
+            Some(tuple) => all.extend_from_slice(&tuple)?,
+        }
+    }
+    Ok(all)
+}
+
+#[test]
+fn tries_one_order_of_each_orbit(rt: HostRuntime) -> Result<(), Fail> {
+    let alloc = rt.alloc();
+    let tables = built(alloc, "1a1b1c", &[])?.tables;
+    let f = linear(alloc, tables.field(), "(x,x,y)")?;
+    let runs = places(alloc, tables.field(), &f)?;
+    assert!(rt; runs.as_slice() == [2, 1].as_slice());
+    let at = Multi::of(&[1, 1, 1]);
+    let least = least_tuples(alloc, &tables, &f, &at, runs.as_slice())?;
+    assert!(rt; least.as_slice() == [0, 1, 2, 0, 2, 1, 1, 2, 0].as_slice());
+    Ok(())
+}
+
+#[test]
+fn factors_of_a_commutator_are_runs_of_their_own(rt: HostRuntime) -> Result<(), Fail> {
+    let alloc = rt.alloc();
+    let tables = built(alloc, "1a1b", &[])?.tables;
+    let f = linear(alloc, tables.field(), "[x,y]")?;
+    let runs = places(alloc, tables.field(), &f)?;
+    assert!(rt; runs.as_slice() == [1, 1].as_slice());
     Ok(())
 }
 
