@@ -1,0 +1,3 @@
+pub mod SaidLemmas
+pub mod FileLemmas
+pub mod ReadLemmas

@@ -1,0 +1,4 @@
+pub mod Codes
+pub mod File
+pub mod Read
+pub mod Steps
