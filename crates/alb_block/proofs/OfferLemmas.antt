@@ -1,6 +1,7 @@
 -- One more instance in the span.
 use Rattle.std.proofs.Common.{◌≡◌, ℕ, zero, suc, ◌+◌, ◌*◌, ◌%◌, ◌<◌, ◌≤◌, false, List, [], ◌∷◌, ◌++◌, map, length, get_or, sym, refl, ap, ◌∙◌, subst, arith, inl, inr, ◌⊎◌, length-append}
-use Rattle.std.proofs.lemmas.Bool.{cases_eq, cases_lt}
+use Rattle.std.specs.Prelude.{Result, Ok, Err, IfOk}
+use Rattle.std.proofs.lemmas.Bool.{cases_eq, cases_lt, false≢true}
 use Rattle.gf_field.specs.Modular.{IsSameMod}
 use Rattle.gf_field.proofs.Mod.{same}
 use Rattle.gf_sums.specs.Sums.{Comb, coefficient, AreSame}
@@ -19,10 +20,11 @@ use Rattle.std.proofs.lemmas.List.{map-append, length-map}
 use Rattle.alb_rows.specs.Span.{combination, InSpan, SpanWithin, SameSpan, IsPivot, ArePivots, Ascending, rows_of}
 use Rattle.alb_rows.proofs.SpanLemmas.{mod_add, mod_mul, span_zero, span_one, span_same, span_through, pivot_through, spans_turned, spans_joined}
 use Rattle.alb_reduce.specs.Reduction.{Reduction, kept, AddsPivot}
+use Rattle.alb_subst.specs.Laws.{MayBeExchanged}
 use Rattle.alb_subst.specs.Sums.{HasEntries, instance_row}
 use Rattle.alb_subst.specs.Tuples.{IsTupleOf, IsLeastTuple, AreLeastTuples}
 use Rattle.alb_subst.proofs.SumLemmas.{pairs_tell}
-use Rattle.alb_subst.proofs.RowLaw.{LeastOf, least-of}
+use Rattle.alb_subst.proofs.RowLaw.{LeastOf, least-of, may-exchange}
 use Rattle.alb_block.specs.Instances.{columns_of, BlockSetting, IsInstance, vector_over, instance_vector, all_instances, listed_instances, SpansInstances, AreOrigins}
 use Rattle.alb_block.specs.Offers.{AreDifferent, HasPivots, IsRowOf, AreKept, HasBefore, HasMore}
 use Rattle.alb_block.proofs.ListLemmas.{in_place, place_in}
@@ -30,7 +32,7 @@ use Rattle.alb_block.proofs.ListLemmas.{in_place, place_in}
 -- what is still to come of the form k: the span has its instances at tuples that never fall within a run, but for some of them
 pub record Lacks (s : BlockSetting) (r : Reduction) (k : ℕ) (tuples : List (List ℕ)) : Type 0 where
   pub runs : List ℕ
-  pub are_runs : AreRuns s.p (form_at s.forms k) runs
+  pub exchanged : MayBeExchanged s.p (form_at s.forms k) runs
   pub each : Each (IsTupleOf s.parts (form_at s.forms k).degree s.at) tuples
   pub others : (x : List ℕ) → IsLeastTuple s.parts (form_at s.forms k).degree s.at runs x → IsIn x tuples ⊎ InSpan s.p (kept r) (instance_vector s (k, x))
 
@@ -243,7 +245,7 @@ kept-nothing s r e w n z = record {
 pub lacks-less : (s : BlockSetting) (old new : Reduction) (k : ℕ) (x : List ℕ) (tuples : List (List ℕ)) → Lacks s old k (x ∷ tuples) → HasMore s old new (k, x) → Lacks s new k tuples
 lacks-less s old new k x tuples l m = record {
   runs = l.runs;
-  are_runs = l.are_runs;
+  exchanged = l.exchanged;
   each = l.each.1;
   others = λ y h. elim (l.others y h) [
     | inl (inl e) ↦ inr (subst (λ z. InSpan s.p (kept new) (instance_vector s (k, z))) (sym e) m.has)
@@ -255,6 +257,15 @@ lacks-less s old new k x tuples l m = record {
 pub before-more : (s : BlockSetting) (old new : Reduction) (k : ℕ) (name : ℕ × List ℕ) → HasBefore s old k → HasMore s old new name → HasBefore s new k
 before-more s old new k name b m n h l = span_through s.p (kept old) (kept new) (instance_vector s n) m.within (b n h l)
 
+-- without runs nothing is exchanged
+pub no-exchange : (p : ℕ) (f : Form) → MayBeExchanged p f []
+no-exchange p f j l g = absurd (false≢true g)
+
+-- the runs of a form
+pub exchanges : {A E : Type 0} (q p : ℕ) (f : Form) (lengths : A → List ℕ) (r : Result A E) → q ≡ p → IfOk r (λ a. AreRuns q f (lengths a)) → IfOk r (λ a. MayBeExchanged p f (lengths a))
+exchanges q p f lengths (Ok a) e h = may-exchange p f (lengths a) (subst (λ n. AreRuns n f (lengths a)) e h)
+exchanges q p f lengths (Err x) e h = tt
+
 -- equal combinations have one vector
 vector-same : (p : ℕ) (cols : List (ℕ × ℕ)) (f g : Comb (ℕ × ℕ)) → AreSame same_pair p f g → (j : ℕ) → vector_over cols f j % p ≡ vector_over cols g j % p
 vector-same p [] f g h j = refl
@@ -264,7 +275,7 @@ vector-same p (q ∷ cols) f g h (suc j) = vector-same p cols f g h j
 -- where the tuples that never fall within a run are done, all are
 all-done : (s : BlockSetting) (r : Reduction) (k : ℕ) (x : List ℕ) → Lacks s r k [] → IsTupleOf s.parts (form_at s.forms k).degree s.at x → InSpan s.p (kept r) (instance_vector s (k, x))
 all-done s r k x l h =
-    let w : LeastOf s.p s.parts (form_at s.forms k) s.at l.runs x = least-of s.p s.parts (form_at s.forms k) s.at l.runs x l.are_runs h in
+    let w : LeastOf s.p s.parts (form_at s.forms k) s.at l.runs x = least-of s.p s.parts (form_at s.forms k) s.at l.runs x l.exchanged h in
     elim (l.others w.least w.is) [
       | inl i ↦ absurd i
       | inr d ↦ span_same s.p (kept r) (instance_vector s (k, w.least)) (instance_vector s (k, x))
@@ -337,11 +348,11 @@ pub item-form : (P : Form → Type 0) (ls : List Linear) (k : ℕ) (l : Linear) 
 item-form P ls k l a h e = subst P (sym (form_item ls k l h e)) (each_at_place P (map form ls) k a (omega (arith, length-map ls form)))
 
 -- the instances of a form, before one is offered
-pub lacks-all : (s : BlockSetting) (r : Reduction) (k : ℕ) (f : Form) (runs : List ℕ) (tuples : List (List ℕ)) → f ≡ form_at s.forms k → AreRuns s.p f runs →
+pub lacks-all : (s : BlockSetting) (r : Reduction) (k : ℕ) (f : Form) (runs : List ℕ) (tuples : List (List ℕ)) → f ≡ form_at s.forms k → MayBeExchanged s.p f runs →
     AreLeastTuples s.parts f.degree s.at runs tuples → Lacks s r k tuples
 lacks-all s r k f runs tuples e q a = record {
   runs = runs;
-  are_runs = subst (λ g. AreRuns s.p g runs) e q;
+  exchanged = subst (λ g. MayBeExchanged s.p g runs) e q;
   each = subst (λ g. Each (IsTupleOf s.parts g.degree s.at) tuples) e
       (each-weaker (IsLeastTuple s.parts f.degree s.at runs) (IsTupleOf s.parts f.degree s.at) tuples (λ x h. h.tuple) a.each);
   others = λ x h. inl (a.all x (subst (λ g. IsLeastTuple s.parts g.degree s.at runs x) (sym e) h));

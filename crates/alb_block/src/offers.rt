@@ -2,10 +2,11 @@
 ghost use Rattle.std.specs.Prelude.{◌≡◌, ℕ, ◌+◌, ◌<◌, ◌≤◌, ◌^◌, ◌++◌, [], ◌∷◌, false, true, length, map, IfOk, OnOk};
 ghost use Rattle.alb_mono.specs.Listing.{Each};
 ghost use Rattle.alb_mono.specs.Tree.{type_le};
-ghost use Rattle.alb_poly.specs.Consequence.{forms};
+ghost use Rattle.alb_poly.specs.Consequence.{form, forms};
 ghost use Rattle.alb_linear.specs.Identity.{IsLinearized};
 ghost use Rattle.alb_rows.specs.Row.{ColumnsBelow, IsRowOver};
 ghost use Rattle.alb_reduce.specs.Reduction.{Reduction};
+ghost use Rattle.alb_subst.specs.Laws.{MayBeExchanged};
 ghost use Rattle.alb_table.specs.Table.{origin_view};
 ghost use Rattle.alb_table.specs.RightTable.{rules_view, AreRules, IsRightFor};
 ghost use Rattle.alb_block.specs.Instances.{BlockSetting, IsInstance, columns_of};
@@ -13,7 +14,7 @@ ghost use Rattle.alb_block.specs.Offers.{setting_from, IsRowOf, AreKept, HasBefo
 
 use alb_linear::places;
 use alb_mono::{Multi, NoMemory};
-use alb_poly::Rules;
+use alb_poly::{Linear, Rules};
 use alb_reduce::{Echelon, Offered};
 use alb_rows::Row;
 use alb_subst::{Columns, Instances, row_of};
@@ -68,6 +69,23 @@ fn offer_row(
     }
 }
 
+// The runs of positions of a form; none where it has no instance of the type, so that nothing is compared.
+fn runs_at(
+    alloc: Global,
+    tables: &Tables,
+    f: &Linear,
+    t: &Multi,
+) -> Result<ArrayVec<u8, 8>, NoMemory>
+    requires form { IsLinearized tables.now.p (form f.now) }
+    requires few { f.now.degree ≤ 8 }
+    ensures { IfOk result (λ r. MayBeExchanged tables.now.p (form f.now) r.items) }
+{
+    if t.degree() < f.degree {
+        return Ok(ArrayVec::new());
+    }
+    places(alloc, tables.field(), f)
+}
+
 // Offers the instances of the form k at the tuples that never fall within a run of positions. They have the span of all.
 fn offer_form(alloc: Global, from: &Sources, k: u32, offers: Offers) -> Result<Offers, NoMemory>
     requires rules { AreRules (rules_view from.now.rules.now) }
@@ -83,7 +101,7 @@ fn offer_form(alloc: Global, from: &Sources, k: u32, offers: Offers) -> Result<O
 {
     let f = &from.rules.linears[k as usize];
     let mut offers = offers;
-    let runs = places(alloc, from.tables.field(), f)?;
+    let runs = runs_at(alloc, from.tables, f, from.at)?;
     let least = runs.as_slice();
     let mut instances = Instances::open_least(alloc, from.tables, f, from.at, least)?;
     while let Some(tuple) = instances.next(from.tables) {

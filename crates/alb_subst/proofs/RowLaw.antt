@@ -18,7 +18,7 @@ use Rattle.alb_table.specs.Block.{image, spread}
 use Rattle.alb_table.proofs.Spans.{spread-alike, row-equal}
 use Rattle.alb_subst.specs.Sums.{instance_row}
 use Rattle.alb_subst.specs.Tuples.{IsTupleOf, type_sum, rises_within, IsLeastTuple}
-use Rattle.alb_subst.specs.Laws.{row_vector, all_rows, least_rows, LeastRowsSpanAll}
+use Rattle.alb_subst.specs.Laws.{MayBeExchanged, row_vector, all_rows, least_rows, LeastRowsSpanAll}
 use Rattle.alb_subst.proofs.SumLemmas.{pairs_tell}
 
 -- the numbers at the place j and the next one exchanged
@@ -177,7 +177,7 @@ pub record LeastOf (p : ℕ) (parts : List PartView) (f : Form) (t runs x : List
   pub is : IsLeastTuple parts f.degree t runs least
   pub same : Alike p (instance_row parts f least) (instance_row parts f x)
 
-sorted : (p : ℕ) (parts : List PartView) (f : Form) (t runs : List ℕ) → AreRuns p f runs → (n : ℕ) (x : List ℕ) → weight 0 x < n → IsTupleOf parts f.degree t x →
+sorted : (p : ℕ) (parts : List PartView) (f : Form) (t runs : List ℕ) → MayBeExchanged p f runs → (n : ℕ) (x : List ℕ) → weight 0 x < n → IsTupleOf parts f.degree t x →
     LeastOf p parts f t runs x
 sorted p parts f t runs r zero x l h = absurd (omega arith)
 sorted p parts f t runs r (suc n) x l h = elim (cases_Bool (rises_within runs 0 x)) [
@@ -193,18 +193,21 @@ sorted p parts f t runs r (suc n) x l h = elim (cases_Bool (rises_within runs 0 
       record {
         least = y.least;
         is = y.is;
-        same = joined y.same (exchange-row p parts f w.place x w.within ((r.joined w.place u).0 g));
+        same = joined y.same (exchange-row p parts f w.place x w.within (r w.place u g));
       })
 ]
 
-pub least-of : (p : ℕ) (parts : List PartView) (f : Form) (t runs x : List ℕ) → AreRuns p f runs → IsTupleOf parts f.degree t x → LeastOf p parts f t runs x
+pub least-of : (p : ℕ) (parts : List PartView) (f : Form) (t runs x : List ℕ) → MayBeExchanged p f runs → IsTupleOf parts f.degree t x → LeastOf p parts f t runs x
 least-of p parts f t runs x r h = sorted p parts f t runs r (suc (weight 0 x)) x (omega arith) h
+
+pub may-exchange : (p : ℕ) (f : Form) (runs : List ℕ) → AreRuns p f runs → MayBeExchanged p f runs
+may-exchange p f runs r j l g = (r.joined j l).0 g
 
 -- THE LAW
 pub least-rows-span-all : LeastRowsSpanAll
 least-rows-span-all p parts f t runs columns r = record {
   into = λ k. span_one p (all_rows parts f t columns) (k.0, k.1.tuple);
-  back = λ k. (let w : LeastOf p parts f t runs k.0 = least-of p parts f t runs k.0 r k.1 in
+  back = λ k. (let w : LeastOf p parts f t runs k.0 = least-of p parts f t runs k.0 (may-exchange p f runs r) k.1 in
       span_same p (least_rows parts f t runs columns) (row_vector parts f columns w.least) (row_vector parts f columns k.0)
       (λ j. (same-alike same_pair pairs_tell w.same (get_or columns j (0, 0))).same) (span_one p (least_rows parts f t runs columns) (w.least, w.is)));
 }

@@ -1,13 +1,17 @@
 -- Laws that functions of `laws` state.
-use Rattle.std.specs.Prelude.{ℕ, List}
+use Rattle.std.specs.Prelude.{◌≡◌, ℕ, suc, ◌<◌, true, List}
 use Rattle.gf_sums.specs.Sums.{coefficient}
 use Rattle.alb_poly.specs.Instance.{Form}
-use Rattle.alb_linear.specs.Runs.{AreRuns}
+use Rattle.alb_linear.specs.Runs.{AreExchangeable, goes_on, AreRuns}
 use Rattle.alb_rows.specs.Span.{SameSpan}
 use Rattle.alb_table.specs.Table.{same_pair, PartView}
 use Rattle.alb_subst.specs.Columns.{pair_at}
 use Rattle.alb_subst.specs.Sums.{instance_row}
 use Rattle.alb_subst.specs.Tuples.{IsTupleOf, IsLeastTuple}
+
+-- positions stand in one run only where they may be exchanged
+abbrev pub MayBeExchanged : ℕ → Form → List ℕ → Type 0
+MayBeExchanged p f runs = (j : ℕ) → suc j < f.degree → goes_on runs (suc j) ≡ true → AreExchangeable p f j
 
 -- the row of a form at basis elements as a vector over columns
 abbrev pub row_vector : List PartView → Form → List (ℕ × ℕ) → List ℕ → ℕ → ℕ

@@ -1,11 +1,11 @@
-use Rattle.std.proofs.Common.{◌≡◌, ℕ, ◌∷◌, List, subst, sym, ◌≤◌, arith}
+use Rattle.std.proofs.Common.{◌≡◌, ℕ, ◌∷◌, List, subst, ◌≤◌, arith}
 use Rattle.std.proofs.lemmas.List.{length-map}
 use Rattle.alb_poly.specs.Consequence.{form, form_at}
 use Rattle.alb_poly.specs.Instance.{Form}
 use Rattle.alb_linear.specs.Identity.{IsLinearized}
-use Rattle.alb_linear.specs.Runs.{AreRuns}
 use Rattle.alb_table.specs.RightTable.{rules_view}
 use Rattle.alb_table.proofs.RightForLemmas.{right-linearized}
+use Rattle.alb_subst.specs.Laws.{MayBeExchanged}
 use Rattle.alb_subst.specs.Sums.{HasEntries, instance_row}
 use Rattle.alb_subst.specs.Tuples.{AreLeastTuples}
 use Rattle.alb_block.specs.Asked.{block_setting}
@@ -47,14 +47,13 @@ returns-clause-before c =
     before-next s c.loop-tuple.offers.echelon c.args.k c.loop-tuple.invariant.before
     (subst (Lacks s c.loop-tuple.offers.echelon c.args.k) c.in_default.ensures.none.0 c.loop-tuple.invariant.lacks)
 
-pub places-requires-clause-form : goal.places-requires-clause-form
-places-requires-clause-form c =
-    subst (λ p. IsLinearized p (form c.index-f.result.now)) (sym c.field.ensures)
+pub runs_at-requires-clause-form : goal.runs_at-requires-clause-form
+runs_at-requires-clause-form c =
     (item-form (IsLinearized c.args.from.now.tables.now.p) c.args.from.now.rules.now.linears.items c.args.k c.index-f.result.now
     (right-linearized (rules_view c.args.from.now.rules.now) c.args.from.now.tables.now c.requires.rules c.requires.right) c.requires.form c.index-f.ensures)
 
-pub places-requires-clause-few : goal.places-requires-clause-few
-places-requires-clause-few c =
+pub runs_at-requires-clause-few : goal.runs_at-requires-clause-few
+runs_at-requires-clause-few c =
     item-form (λ f. f.degree ≤ 8) c.args.from.now.rules.now.linears.items c.args.k c.index-f.result.now c.requires.rules.low c.requires.form c.index-f.ensures
 
 pub loop-tuple-init : goal.loop-tuple-init
@@ -63,7 +62,7 @@ loop-tuple-init c =
     let f : Form = form c.index-f.result.now in
     let runs : List ℕ = c.in_ok-runs.runs.items in
     let e : f ≡ form_at s.forms c.args.k = form_item c.args.from.now.rules.now.linears.items c.args.k c.index-f.result.now c.requires.form c.index-f.ensures in
-    let q : AreRuns s.p f runs = subst (λ p. AreRuns p f runs) c.field.ensures c.in_ok-runs.ensures in
+    let q : MayBeExchanged s.p f runs = c.in_ok-runs.ensures in
     let a : AreLeastTuples s.parts f.degree s.at runs c.in_ok-instances.instances =
     subst (λ (rs : List ℕ). AreLeastTuples s.parts f.degree s.at rs c.in_ok-instances.instances) c.as_slice-least.ensures.value c.in_ok-instances.ensures in
     record {
