@@ -3,3 +3,7 @@ pub mod EchelonLemmas
 pub mod RecipeLemmas
 pub mod StateLemmas
 pub mod PlaceLemmas
+pub mod LaneLemmas
+pub mod SpreadLemmas
+pub mod PivotLemmas
+pub mod KeepLemmas

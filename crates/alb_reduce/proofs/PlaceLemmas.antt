@@ -1,16 +1,16 @@
 -- Where the pivots stand, and the rows that are taken off.
-use Rattle.std.proofs.Common.{◌≡◌, ◌≢◌, ℕ, suc, ◌+◌, ◌*◌, ◌%◌, ◌<◌, ◌≤◌, inl, inr, List, [], ◌∷◌, ◌++◌, refl, arith, subst, sym, ap, ◌∙◌, length, get_or, take, true, false}
+use Rattle.std.proofs.Common.{◌≡◌, ◌≢◌, ℕ, ◌+◌, ◌*◌, ◌%◌, ◌<◌, ◌≤◌, inl, inr, List, [], ◌∷◌, ◌++◌, refl, arith, subst, sym, ap, ◌∙◌, length, get_or, true, false}
 use Rattle.std.proofs.Math.Nat.{mod-eq_of_lt}
 use Rattle.std.proofs.lemmas.Bool.{cases_eq}
 use Rattle.std.specs.Prelude.{Option, Some, None, MatchOption, is_some, slice_index}
 use Rattle.std.specs.List.{Contains}
-use Rattle.std.proofs.lemmas.List.{length_push, get_or_push, get_or_append_left, get_or_past, get_or_default, get_or-take, length-take, take_more}
-use Rattle.alb_rows.specs.Row.{Cells, entry, IsRowOver, RowLeadsWith}
+use Rattle.std.proofs.lemmas.List.{length_push, get_or_push, get_or_append_left, get_or_past, get_or_default}
+use Rattle.alb_rows.specs.Row.{Cells, entry, RowLeadsWith}
 use Rattle.alb_rows.specs.Span.{rows_of, DiffersBySpan}
-use Rattle.alb_rows.proofs.RowLemmas.{at_column-other}
 use Rattle.alb_rows.proofs.SpanLemmas.{mod_add}
-use Rattle.alb_reduce.specs.Echelon.{IsEchelon, IsCleared, IsClearedAt, IsIndex, PutsAt, AreHits}
-use Rattle.alb_reduce.proofs.DiagonalLemmas.{zero_mod, add_zeros, mul_zero_right, mul_one_right}
+use Rattle.alb_reduce.specs.Echelon.{IsEchelon, IsCleared, IsClearedAt}
+use Rattle.alb_reduce.specs.Index.{IsIndex, PutsAt}
+use Rattle.alb_reduce.proofs.DiagonalLemmas.{add_zeros, mul_zero_right, mul_one_right}
 use Rattle.alb_reduce.proofs.EchelonLemmas.{differs_none, differs_more}
 
 -- the row where the kept rows at some places have been taken off
@@ -77,52 +77,6 @@ lead_fresh p pivots rows row w lead d h small k l e =
     h.nonzero
     (sym (mod-eq_of_lt small) ∙ ap (λ n. n % p) (sym h.entry_is) ∙ subst (λ c. entry w c % p ≡ 0) e (d.zero_at k l))
 
--- ---- the pivots at which a row is not 0
-
-pub hits_none : (pivots : List ℕ) → AreHits pivots [] []
-hits_none pivots = record { within = λ m l. absurd (omega arith); all = λ k i lk li e. absurd (omega arith) }
-
-pub hits_skip : (pivots : List ℕ) (cells : Cells) (hits : List ℕ) (x : ℕ × ℕ) → AreHits pivots cells hits → ((k : ℕ) → k < length pivots → get_or pivots k 0 ≢ x.0) →
-    AreHits pivots (cells ++ x ∷ []) hits
-hits_skip pivots cells hits x h none = record {
-  within = h.within;
-  all = λ k i lk li e. elim (cases_eq i (length cells)) [
-    | inl is ↦ absurd (none k lk (sym e ∙ ap (λ n. (get_or (cells ++ x ∷ []) n (0, 0)).0) is ∙ ap (λ (c : ℕ × ℕ). c.0) (get_or_push cells x (0, 0) (length cells) refl)))
-    | inr ne ↦
-        let l : i < length cells = omega (arith, length_push cells x, li) in
-        h.all k i lk l (ap (λ (c : ℕ × ℕ). c.0) (sym (get_or_append_left cells (x ∷ []) (0, 0) i l)) ∙ e)
-  ];
-}
-
-pub hits_more : (pivots places : List ℕ) (cells : Cells) (hits : List ℕ) (x : ℕ × ℕ) (n : ℕ) → IsIndex pivots places → AreHits pivots cells hits → n < length pivots → get_or pivots n 0 ≡ x.0 →
-    AreHits pivots (cells ++ x ∷ []) (hits ++ n ∷ [])
-hits_more pivots places cells hits x n index h ln is = record {
-  within = λ m l. elim (cases_eq m (length hits)) [
-    | inl e ↦ rw (e, last) ln
-    | inr ne ↦ let lm : m < length hits = omega (arith, long, l) in rw (old m lm) (h.within m lm)
-  ];
-  all = λ k i lk li e. elim (cases_eq i (length cells)) [
-    | inl q ↦
-        let same : n ≡ k =
-        index_once pivots places n k index ln lk
-        (is ∙ sym (ap (λ (c : ℕ × ℕ). c.0) (get_or_push cells x (0, 0) (length cells) refl)) ∙ sym (ap (λ j. (get_or (cells ++ x ∷ []) j (0, 0)).0) q) ∙ e) in
-        (length hits, omega (arith, long), last ∙ same)
-    | inr ne ↦
-        let l : i < length cells = omega (arith, length_push cells x, li) in
-        let m = h.all k i lk l (ap (λ (c : ℕ × ℕ). c.0) (sym (get_or_append_left cells (x ∷ []) (0, 0) i l)) ∙ e) in
-        (m.0, omega (arith, long, m.1), old m.0 m.1 ∙ m.2)
-  ];
-}
-  where
-    long : length (hits ++ n ∷ []) ≡ length hits + 1
-    long = length_push hits n
-
-    last : get_or (hits ++ n ∷ []) (length hits) 0 ≡ n
-    last = get_or_push hits n 0 (length hits) refl
-
-    old : (k : ℕ) → k < length hits → get_or (hits ++ n ∷ []) k 0 ≡ get_or hits k 0
-    old k l = get_or_append_left hits (n ∷ []) 0 k l
-
 -- ---- taking kept rows off
 
 pub taken_none : (p : ℕ) (pivots : List ℕ) (rows : List Cells) (v : ℕ → ℕ) → AreTakenOff p pivots rows [] v v
@@ -160,45 +114,6 @@ taken_more p pivots rows hits n v w w' h within ln d at = record {
           | inl e ↦ rw e here
           | inr ne ↦ at.entries (get_or pivots k 0) ∙ add_zeros p _ _ z (mul_zero_right p at.factor _ (h.diagonal.others n k ln l (λ q. ne (sym q))))
         ]
-
--- where a row is not 0, it has a cell
-entry_cell : (xs : Cells) (j : ℕ) → entry xs j ≢ 0 → (i : ℕ) × (i < length xs) × ((get_or xs i (0, 0)).0 ≡ j)
-entry_cell [] j ne = absurd (ne refl)
-entry_cell (x ∷ xs) j ne =
-    elim (cases_eq x.0 j) [
-      | inl e ↦ (0, omega arith, e)
-      | inr other ↦
-          let rest : entry xs j ≢ 0 = λ z. ne (let f : entry (x ∷ xs) j ≡ 0 = omega (arith, at_column-other x.0 x.1 j other) in f) in
-          let i = entry_cell xs j rest in
-          (suc i.0, omega (arith, i.1), i.2)
-    ]
-
--- where all pivots at which the row is not 0 have been taken off, all have
-pub cleared_all : (p : ℕ) (pivots : List ℕ) (rows : List Cells) (hits : List ℕ) (row w : Cells) → AreHits pivots row hits → IsRowOver p w →
-    AreTakenOff p pivots rows hits (entry row) (entry w) → IsCleared p pivots rows row w
-cleared_all p pivots rows hits row w h over d = record {
-  residues = over;
-  differs = d.differs;
-  zero_at = λ k l. elim (cases_eq (entry row (get_or pivots k 0)) 0) [
-    | inl z ↦ d.zero_stays k l (ap (λ n. n % p) z ∙ zero_mod p)
-    | inr ne ↦
-        let i = entry_cell row (get_or pivots k 0) ne in
-        let m = h.all k i.0 l i.1 i.2 in
-        subst (λ n. entry w (get_or pivots n 0) % p ≡ 0) m.2 (d.zero_at m.0 m.1)
-  ];
-}
-
--- one more of the places in order
-pub taken_next : (p : ℕ) (pivots : List ℕ) (rows : List Cells) (cells : Cells) (hits : List ℕ) (i : ℕ) (v w w' : ℕ → ℕ) → IsEchelon p pivots rows → AreHits pivots cells hits → i < length hits →
-    AreTakenOff p pivots rows (take i hits) v w → IsClearedAt p (get_or pivots (get_or hits i 0) 0) (rows_of rows (get_or hits i 0)) w w' →
-    AreTakenOff p pivots rows (take (i + 1) hits) v w'
-taken_next p pivots rows cells hits i v w w' h are l d at =
-    rw (take_more hits i 0 l) (taken_more p pivots rows (take i hits) (get_or hits i 0) v w w' h within (are.within i l) d at)
-  where
-    within : (m : ℕ) → m < length (take i hits) → get_or (take i hits) m 0 < length pivots
-    within m k =
-        let lm : m < i = omega (arith, length-take i hits) in
-        rw (get_or-take i hits m 0 lm) (are.within m (omega arith))
 
 -- ---- the pivots in order
 

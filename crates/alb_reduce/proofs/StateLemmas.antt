@@ -16,7 +16,7 @@ use Rattle.alb_reduce.specs.Reduction.{Reduction, IsNewTag, IsRecipe, offered}
 use Rattle.alb_reduce.specs.declared.kept.Kept.{Kept}
 use Rattle.alb_reduce.specs.declared.echelon.Offered.{Offered}
 use Rattle.alb_reduce.specs.declared.echelon.Offered.TheVariants.{Dependent, Pivot}
-use Rattle.alb_reduce.specs.Echelon.{IsEchelon, IsCleared, IsIndex, Keeps, NewPivot, IsNarrow, AreKeptRows, Agrees, AllAgree, IsState, IsForm}
+use Rattle.alb_reduce.specs.Echelon.{kept_rows, HasSameRows, IsEchelon, IsCleared, Keeps, NewPivot, IsNarrow, AreKeptRows, Agrees, AllAgree, IsState, IsForm}
 use Rattle.alb_reduce.proofs.DiagonalLemmas.{zero_mod, add_zero_right, diagonal_each, diagonal_row}
 use Rattle.alb_reduce.proofs.EchelonLemmas.{span_zero_at, pivot_below, kept_more, positive, dependent, span_dependent}
 use Rattle.alb_reduce.proofs.RecipeLemmas.{recipes_old, recipes_more, reduced_same, recipe_tags, recipe_residues, recipe_ascending}
@@ -99,47 +99,58 @@ state_pivot p columns keeps pivots rows recipes offers offers' tag c row first r
 
 -- what is kept after an offer is a state again
 pub state_after : (p columns : ℕ) (keeps : Bool) (old new : Kept) (offers offers' : List (ℕ × Cells)) (tag : ℕ) (row first : Cells) (o : Offered) →
-    IsState p columns keeps old.pivots.items old.rows.items old.recipes.items offers → offers' ≡ (if keeps then offers ++ (tag, row) ∷ [] else offers) →
+    IsState p columns keeps old.pivots.items (kept_rows old) old.recipes.items offers → offers' ≡ (if keeps then offers ++ (tag, row) ∷ [] else offers) →
     (IsTrue keeps → IsNewTag offers tag) → ColumnsBelow columns row → (IsTrue keeps → first ≡ (tag, 1) ∷ []) → Keeps p old new row first o →
-    IsState p columns keeps new.pivots.items new.rows.items new.recipes.items offers'
+    IsState p columns keeps new.pivots.items (kept_rows new) new.recipes.items offers'
 state_after p columns keeps old new offers offers' tag row first Dependent s e fresh narrow is k =
-    subst (λ (n : Kept). IsState p columns keeps n.pivots.items n.rows.items n.recipes.items offers') (sym k.0)
-    (state_dependent p columns keeps old.pivots.items old.rows.items old.recipes.items offers offers' tag row s e fresh)
+    subst (λ (ps : List ℕ). IsState p columns keeps ps (kept_rows new) new.recipes.items offers') (sym k.same.pivots)
+    (subst (λ (rows : List Cells). IsState p columns keeps old.pivots.items rows new.recipes.items offers') (sym k.same.rows)
+    (subst (λ (recipes : List Cells). IsState p columns keeps old.pivots.items (kept_rows old) recipes offers') (sym k.same.recipes)
+    (state_dependent p columns keeps old.pivots.items (kept_rows old) old.recipes.items offers offers' tag row s e fresh)))
 state_after p columns keeps old new offers offers' tag row first (Pivot c) s e fresh narrow is k =
-    subst (λ (ps : List ℕ). IsState p columns keeps ps new.rows.items new.recipes.items offers') (sym k.pivots)
-    (state_pivot p columns keeps old.pivots.items old.rows.items old.recipes.items offers offers' tag c row first new.rows.items new.recipes.items
+    subst (λ (ps : List ℕ). IsState p columns keeps ps (kept_rows new) new.recipes.items offers') (sym k.pivots)
+    (state_pivot p columns keeps old.pivots.items (kept_rows old) old.recipes.items offers offers' tag c row first (kept_rows new) new.recipes.items
     s e fresh narrow is k.rows k.long k.residues k.agree)
 
-pub index_after : (p : ℕ) (old new : Kept) (row first : Cells) (o : Offered) → IsIndex old.pivots.items old.places.items → Keeps p old new row first o →
-    IsIndex new.pivots.items new.places.items
-index_after p old new row first Dependent i k = subst (λ (n : Kept). IsIndex n.pivots.items n.places.items) (sym k.0) i
-index_after p old new row first (Pivot c) i k = k.index
-
 pub span_after : (p : ℕ) (old new : Kept) (row first : Cells) (o : Offered) → Keeps p old new row first o →
-    SameSpan p (rows_of new.rows.items) (rows_of (row ∷ old.rows.items))
+    SameSpan p (rows_of (kept_rows new)) (rows_of (row ∷ kept_rows old))
 span_after p old new row first Dependent k =
-    subst (λ (n : Kept). SameSpan p (rows_of n.rows.items) (rows_of (row ∷ old.rows.items))) (sym k.0)
-    (span_dependent p old.rows.items row (dependent p old.pivots.items old.rows.items row k.1))
+    subst (λ (rows : List Cells). SameSpan p (rows_of rows) (rows_of (row ∷ kept_rows old))) (sym k.same.rows)
+    (span_dependent p (kept_rows old) row (dependent p old.pivots.items (kept_rows old) row k.cleared))
 span_after p old new row first (Pivot c) k = k.rows.span
 
 pub dependent_after : (p : ℕ) (old new : Kept) (row first : Cells) (o : Offered) → Keeps p old new row first o →
-    (o ≡ Dependent) ↔ InSpan p (rows_of old.rows.items) (entry row)
-dependent_after p old new row first Dependent k = (λ e. dependent p old.pivots.items old.rows.items row k.1, λ s. refl)
+    (o ≡ Dependent) ↔ InSpan p (rows_of (kept_rows old)) (entry row)
+dependent_after p old new row first Dependent k = (λ e. dependent p old.pivots.items (kept_rows old) row k.cleared, λ s. refl)
 dependent_after p old new row first (Pivot c) k = (λ e. absurd cc, λ s. absurd (k.rows.outside s))
 
 pub new_after : (p : ℕ) (old new : Kept) (row first : Cells) (o : Offered) (c : ℕ) → o ≡ Pivot c → Keeps p old new row first o →
-    NewPivot p old.pivots.items old.rows.items row c new.rows.items
+    NewPivot p old.pivots.items (kept_rows old) row c (kept_rows new)
 new_after p old new row first Dependent c e k = absurd cc
 new_after p old new row first (Pivot d) c e k =
     let same : d ≡ c = cc in
-    subst (λ (n : ℕ). NewPivot p old.pivots.items old.rows.items row n new.rows.items) same k.rows
+    subst (λ (n : ℕ). NewPivot p old.pivots.items (kept_rows old) row n (kept_rows new)) same k.rows
+
+-- rows that are the same before an offer, and after it
+pub keeps_from_same : (p : ℕ) (old mid new : Kept) (row first : Cells) (o : Offered) → HasSameRows old mid → Keeps p mid new row first o → Keeps p old new row first o
+keeps_from_same p old mid new row first Dependent h k = record {
+  same = record { pivots = k.same.pivots ∙ h.pivots; rows = k.same.rows ∙ h.rows; recipes = k.same.recipes ∙ h.recipes };
+  cleared = subst (λ (ps : List ℕ). IsCleared p ps (kept_rows old) row []) h.pivots
+      (subst (λ (rows : List Cells). IsCleared p mid.pivots.items rows row []) h.rows k.cleared);
+}
+keeps_from_same p old mid new row first (Pivot c) h k = record {
+  pivots = k.pivots ∙ ap (λ (ps : List ℕ). ps ++ c ∷ []) h.pivots;
+  rows = subst (λ (ps : List ℕ). NewPivot p ps (kept_rows old) row c (kept_rows new)) h.pivots
+      (subst (λ (rows : List Cells). NewPivot p mid.pivots.items rows row c (kept_rows new)) h.rows k.rows);
+  long = k.long;
+  residues = k.residues;
+  agree = λ w u all by.
+      k.agree w u
+      (subst (λ (rows : List Cells). AllAgree p w u mid.recipes.items rows) (sym h.rows)
+      (subst (λ (recipes : List Cells). AllAgree p w u recipes (kept_rows old)) (sym h.recipes) all)) by;
+}
 
 -- ---- what a recipe is
-
--- what is read from a list of vectors, in the list of their items
-pub items_read : {V X : Type 0} (items : V → List X) (vs : List V) (k : ℕ) (v : V) (x : List X) → k < length vs → x ≡ items v → v ≡ get_or vs k v →
-    x ≡ get_or (map items vs) k []
-items_read items vs k v x l e read = e ∙ ap items read ∙ sym (get_or-map items vs k v [] l)
 
 -- there is a list of items for each pivot
 pub items_long : {V : Type 0} (p columns : ℕ) (keeps : Bool) (pivots order : List ℕ) (rows : List Cells) (items : V → Comb ℕ) (vs : List V) (offers : List (ℕ × Cells)) (k : ℕ) →

@@ -8,6 +8,8 @@ use Rattle.alb_rows.specs.Span.{rows_of, combination, Ascending, ArePivots, Diff
 use Rattle.alb_reduce.specs.declared.kept.Kept.{Kept}
 use Rattle.alb_reduce.specs.declared.echelon.Offered.{Offered}
 use Rattle.alb_reduce.specs.declared.echelon.Offered.TheVariants.{Dependent, Pivot}
+use Rattle.alb_reduce.specs.Index.{IsIndex}
+use Rattle.alb_reduce.specs.Lanes.{lane_cells, lane_rows, AreResidues, AreZero, IsLaid, Covers}
 use Rattle.alb_reduce.specs.Reduction.{IsNewTag, offered}
 
 -- n rows with their pivots, each 1 at its own pivot, 0 at every other one and 0 before its own. Past them the family is zero
@@ -30,21 +32,12 @@ pub record IsCleared (p : ℕ) (pivots : List ℕ) (rows : List Cells) (row new 
   pub differs : DiffersBySpan p (rows_of rows) (entry row) (entry new)
   pub zero_at : (l : ℕ) → l < length pivots → entry new (slice_index pivots l) % p ≡ 0
 
--- for each column the place of its pivot and 1, or 0 where it is no pivot
-pub record IsIndex (pivots places : List ℕ) : Type 0 where
-  pub found : (k : ℕ) → k < length pivots → slice_index places (slice_index pivots k) ≡ k + 1
-  pub from : (c k : ℕ) → slice_index places c ≡ k + 1 → (k < length pivots) × (slice_index pivots k ≡ c)
-
--- n stands at c, and the other numbers are as they were
-pub record PutsAt (old new : List ℕ) (c n : ℕ) : Type 0 where
-  pub here : slice_index new c ≡ n
-  pub others : (j : ℕ) → j ≢ c → slice_index new j ≡ slice_index old j
-
--- the places of the pivots that are columns of the cells
-pub record AreHits (pivots : List ℕ) (cells : Cells) (hits : List ℕ) : Type 0 where
-  pub within : (m : ℕ) → m < length hits → slice_index hits m < length pivots
-  pub all : (k i : ℕ) → k < length pivots → i < length cells → (slice_index_or cells i (0, 0)).0 ≡ slice_index pivots k
-      → (m : ℕ) × (m < length hits) × (slice_index hits m ≡ k)
+-- the row where kept rows have been taken off at some of its cells: partly in lanes, with no entry at a pivot there, and partly the rest of its cells
+pub record IsSpread (p : ℕ) (live pivots : List ℕ) (rows : List Cells) (row : Cells) (lanes : List ℕ) (rest : Cells) : Type 0 where
+  pub long : length lanes ≡ length live
+  pub residues : AreResidues p lanes
+  pub differs : DiffersBySpan p (rows_of rows) (entry row) (entry (lane_cells live lanes ++ rest))
+  pub zero_at : (i k : ℕ) → i < length live → k < length pivots → slice_index live i ≡ slice_index pivots k → slice_index lanes i ≡ 0
 
 -- a multiple of `by` has been added, which is 1 at the column, so that the new vector is 0 there
 pub record IsClearedAt (p column : ℕ) (by old new : ℕ → ℕ) : Type 0 where
@@ -97,19 +90,48 @@ pub record RecipesFollow (p : ℕ) (by_recipe by : Cells) (old_recipes old recip
   pub residues : All (IsRowOver p) recipes
   pub agree : (w u : ℕ → ℕ) → Agrees p w u by_recipe by → AllAgree p w u old_recipes old → AllAgree p w u recipes rows
 
+-- the kept rows
+abbrev pub kept_rows : Kept → List Cells
+kept_rows kept = lane_rows kept.live.items kept.pivots.items (map (λ v. v.items) kept.lanes.items)
+
+-- how the kept rows are kept
+pub record IsHeld (p : ℕ) (kept : Kept) : Type 0 where
+  pub echelon : IsEchelon p kept.pivots.items (kept_rows kept)
+  pub index : IsIndex kept.pivots.items kept.places.items
+  pub laid : IsLaid p kept.live.items kept.slots.items kept.pivots.items (map (λ v. v.items) kept.lanes.items)
+  pub long : length kept.recipes.items ≡ length kept.pivots.items
+  pub residues : All (IsRowOver p) kept.recipes.items
+
+-- the same with lanes that are 0, in which rows are offered. Before the first offer no column has a lane
+pub record IsReady (p columns : ℕ) (kept : Kept) (scratch : List ℕ) : Type 0 where
+  pub held : IsHeld p kept
+  pub covers : 0 < length kept.live.items + length kept.pivots.items → Covers columns kept.live.items kept.pivots.items
+  pub long : length scratch ≡ length kept.live.items
+  pub zero : AreZero scratch
+
+-- the kept rows are the same, however they are kept
+pub record HasSameRows (old new : Kept) : Type 0 where
+  pub pivots : new.pivots.items ≡ old.pivots.items
+  pub rows : kept_rows new ≡ kept_rows old
+  pub recipes : new.recipes.items ≡ old.recipes.items
+
+-- the row was a combination of the kept rows, which are the same
+pub record KeepsAll (p : ℕ) (old new : Kept) (row : Cells) : Type 0 where
+  pub same : HasSameRows old new
+  pub cleared : IsCleared p old.pivots.items (kept_rows old) row []
+
 -- one row more is kept: it was `row` with its recipe before it was cleared, and its pivot is c
 pub record KeepsPivot (p : ℕ) (old new : Kept) (row recipe : Cells) (c : ℕ) : Type 0 where
   pub pivots : new.pivots.items ≡ old.pivots.items ++ c ∷ []
-  pub index : IsIndex new.pivots.items new.places.items
-  pub rows : NewPivot p old.pivots.items old.rows.items row c new.rows.items
-  pub long : length new.recipes.items ≡ length new.rows.items
+  pub rows : NewPivot p old.pivots.items (kept_rows old) row c (kept_rows new)
+  pub long : length new.recipes.items ≡ length (kept_rows new)
   pub residues : All (IsRowOver p) new.recipes.items
-  pub agree : (w u : ℕ → ℕ) → AllAgree p w u old.recipes.items old.rows.items → Agrees p w u recipe row
-      → AllAgree p w u new.recipes.items new.rows.items
+  pub agree : (w u : ℕ → ℕ) → AllAgree p w u old.recipes.items (kept_rows old) → Agrees p w u recipe row
+      → AllAgree p w u new.recipes.items (kept_rows new)
 
--- what is kept after an offer: the same, where the row was a combination of the kept rows, or one row more
+-- what is kept after an offer
 abbrev pub Keeps : ℕ → Kept → Kept → Cells → Cells → Offered → Type 0
-Keeps p old new row recipe Dependent = (new ≡ old) × IsCleared p old.pivots.items old.rows.items row []
+Keeps p old new row recipe Dependent = KeepsAll p old new row
 Keeps p old new row recipe (Pivot c) = KeepsPivot p old new row recipe c
 
 -- each recipe gives its row from the offered rows, and has no tag but theirs

@@ -5,6 +5,7 @@ ghost use Rattle.alb_rows.specs.Span.{rows_of, DiffersBySpan, InSpan, IsPivot, S
 ghost use Rattle.alb_reduce.specs.Reduction.{AddsPivot, IsNewTag, kept};
 
 use crate::kept::Kept;
+use crate::lanes::{all_rows, row_of_lanes, zeros};
 use crate::order::ascending;
 use crate::recipes::all_items;
 use crate::reduced::Reduced;
@@ -32,19 +33,21 @@ pub struct Echelon {
     columns: u32,
     keep_recipes: bool,
     kept: Kept,
+    // A lane for each of `kept.live`, all 0, in which rows are offered.
+    scratch: Vec<Residue>,
     tags: Vec<u32>,
     offers: Vec<(u32, Row)>,
 }
 
 impl Model for Echelon {
     ghost use Rattle.alb_reduce.specs.Reduction.{Reduction};
-    ghost use Rattle.alb_reduce.specs.Echelon.{IsState, IsIndex};
+    ghost use Rattle.alb_reduce.specs.Echelon.{kept_rows, IsReady, IsState};
 
     ghost Value = { Reduction };
 
-    ghost view = { λ e. record { p = e.field; columns = e.columns; rows = e.kept.rows.items; tags = e.tags.items; keeps_recipes = e.keep_recipes; offers = e.offers.items } };
+    ghost view = { λ e. record { p = e.field; columns = e.columns; rows = kept_rows e.kept; tags = e.tags.items; keeps_recipes = e.keep_recipes; offers = e.offers.items } };
 
-    ghost invariant = { λ e. record { state : IsState e.field e.columns e.keep_recipes e.kept.pivots.items e.kept.rows.items e.kept.recipes.items e.offers.items; index : IsIndex e.kept.pivots.items e.kept.places.items } };
+    ghost invariant = { λ e. record { state : IsState e.field e.columns e.keep_recipes e.kept.pivots.items (kept_rows e.kept) e.kept.recipes.items e.offers.items; ready : IsReady e.field e.columns e.kept e.scratch.items } };
 }
 
 impl Echelon {
@@ -60,10 +63,13 @@ impl Echelon {
             keep_recipes,
             kept: Kept {
                 pivots: Vec::new(alloc),
-                rows: Vec::new(alloc),
+                live: Vec::new(alloc),
+                slots: Vec::new(alloc),
+                lanes: Vec::new(alloc),
                 recipes: Vec::new(alloc),
                 places: Vec::new(alloc),
             },
+            scratch: Vec::new(alloc),
             tags: Vec::new(alloc),
             offers: Vec::new(alloc),
         }
@@ -79,11 +85,16 @@ impl Echelon {
         ensures row { IfOk result (λ r. IsRowOver self.now.p r) }
         ensures columns { IfOk result (λ r. ColumnsBelow self.now.columns r) }
     {
-        let mut row = row;
+        if self.kept.pivots.is_empty() {
+            return Ok(row);
+        }
+        let alloc = *self.kept.pivots.allocator();
+        let mut lanes = zeros(alloc, self.kept.live.len())?;
         // what the row was reduced with is dropped
-        let mut recipe = Row::new(*self.kept.rows.allocator());
-        clear(&self.field, &self.kept, &mut row, &mut recipe)?;
-        Ok(row)
+        let mut recipe = Row::new(alloc);
+        clear(&self.field, &self.kept, &row, &mut lanes, &mut recipe)?;
+        let reduced = row_of_lanes(alloc, &self.kept.live, &lanes)?;
+        Ok(reduced)
     }
 
     /// Adds the row to the span, and says whether it made a pivot. The row's columns are below `columns`, and where recipes are
@@ -105,12 +116,13 @@ impl Echelon {
             columns,
             keep_recipes,
             mut kept,
+            mut scratch,
             mut tags,
             mut offers,
         } = self;
         note_offer(keep_recipes, tag, &row, &mut offers)?;
-        let recipe = Row::unit(*kept.rows.allocator(), tag, Residue::from(keep_recipes))?;
-        let offered = keep(&field, &mut kept, row, recipe)?;
+        let recipe = Row::unit(*kept.pivots.allocator(), tag, Residue::from(keep_recipes))?;
+        let offered = keep(&field, columns, &mut kept, &row, &mut scratch, recipe)?;
         note_tag(offered, tag, &mut tags)?;
         Ok((
             Echelon {
@@ -118,6 +130,7 @@ impl Echelon {
                 columns,
                 keep_recipes,
                 kept,
+                scratch,
                 tags,
                 offers,
             },
@@ -125,7 +138,7 @@ impl Echelon {
         ))
     }
 
-    /// The reduced form of the span. The rows are moved.
+    /// The reduced form of the span.
     pub fn close(self) -> Result<Reduced, NoMemory>
         ensures { IfOk result (λ r. r ≡ self) }
     {
@@ -134,11 +147,13 @@ impl Echelon {
             columns,
             keep_recipes,
             kept,
+            scratch: _,
             tags,
             offers,
         } = self;
-        let alloc = *kept.rows.allocator();
+        let alloc = *kept.pivots.allocator();
         let pivots = ascending(alloc, &kept.places, columns)?;
+        let rows = all_rows(alloc, &kept.live, &kept.pivots, &kept.lanes)?;
         let recipes = all_items(alloc, &kept.recipes)?;
         Ok(Reduced {
             field,
@@ -147,7 +162,7 @@ impl Echelon {
             pivots,
             order: kept.pivots,
             places: kept.places,
-            rows: kept.rows,
+            rows,
             recipes,
             tags,
             offers,

@@ -7,6 +7,7 @@
 
 mod echelon;
 mod kept;
+mod lanes;
 pub mod laws;
 mod order;
 mod places;

@@ -1,6 +1,7 @@
 //! The pivots in the order of columns.
 ghost use Rattle.std.specs.Prelude.{ℕ, List, IfOk};
-ghost use Rattle.alb_reduce.specs.Echelon.{IsAscendingBelow, IsIndex};
+ghost use Rattle.alb_reduce.specs.Echelon.{IsAscendingBelow};
+ghost use Rattle.alb_reduce.specs.Index.{IsIndex};
 
 use crate::places::place_of;
 use alb_mono::NoMemory;

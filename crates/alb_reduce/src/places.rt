@@ -1,10 +1,9 @@
-//! Where the pivots stand in the order of offering.
-ghost use Rattle.std.specs.Prelude.{◌≡◌, ℕ, ◌+◌, ◌<◌, ◌≢◌, ◌^◌, ◌++◌, [], ◌∷◌, List, IfOk, OnOk, MatchOption, length, slice_index};
-ghost use Rattle.alb_rows.specs.Row.{Cells};
-ghost use Rattle.alb_reduce.specs.Echelon.{AreHits, IsIndex, PutsAt};
+//! Where columns stand in a list.
+ghost use Rattle.std.specs.Prelude.{◌≡◌, ℕ, ◌+◌, ◌<◌, ◌≢◌, ◌^◌, List, IfOk, OnOk, MatchOption, length, slice_index};
+ghost use Rattle.alb_rows.specs.Span.{Ascending};
+ghost use Rattle.alb_reduce.specs.Index.{IsIndex, PutsAt};
 
 use alb_mono::NoMemory;
-use gf_field::Residue;
 use std::alloc::Global;
 
 // The place of the pivot of a column.
@@ -32,31 +31,14 @@ pub(crate) fn put_place(places: &mut Vec<usize>, column: u32, place: usize) -> R
     Ok(())
 }
 
-// Adds the place of the pivot of a column, where it is one.
-fn push_hit(places: &[usize], column: u32, hits: &mut Vec<usize>) -> Result<(), NoMemory>
-    ensures { OnOk result ((pivots : List ℕ) (cells : Cells) (c : ℕ) → IsIndex pivots places.now → AreHits pivots cells hits.old.items
-        → AreHits pivots (cells ++ (column, c) ∷ []) hits.new.items) }
+// The places of ascending columns.
+pub(crate) fn slots_of(alloc: Global, live: &[u32]) -> Result<Vec<usize>, NoMemory>
+    requires { Ascending live.now }
+    ensures { IfOk result (λ v. IsIndex live.now v.items) }
 {
-    match place_of(places, column) {
-        None => Ok(()),
-        Some(place) => {
-            hits.push(place)?;
-            Ok(())
-        }
+    let mut slots = Vec::new(alloc);
+    for i in 0..live.len() {
+        put_place(&mut slots, live[i], i)?;
     }
-}
-
-// The places of the pivots that are columns of the cells.
-pub(crate) fn hits_of(
-    alloc: Global,
-    places: &[usize],
-    cells: &[(u32, Residue)],
-) -> Result<Vec<usize>, NoMemory>
-    ensures { IfOk result (λ hits. (pivots : List ℕ) → IsIndex pivots places.now → AreHits pivots cells.now hits.items) }
-{
-    let mut hits = Vec::new(alloc);
-    for (column, _c) in cells {
-        push_hit(places, *column, &mut hits)?;
-    }
-    Ok(hits)
+    Ok(slots)
 }

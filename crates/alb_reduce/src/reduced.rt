@@ -28,7 +28,8 @@ pub struct Reduced {
 impl Model for Reduced {
     ghost use Rattle.std.specs.Prelude.{map};
     ghost use Rattle.alb_reduce.specs.Reduction.{Reduction};
-    ghost use Rattle.alb_reduce.specs.Echelon.{IsForm, IsIndex};
+    ghost use Rattle.alb_reduce.specs.Echelon.{IsForm};
+    ghost use Rattle.alb_reduce.specs.Index.{IsIndex};
 
     ghost Value = { Reduction };
 

@@ -1,5 +1,6 @@
 use Rattle.std.proofs.Common.{ℕ, List}
-use Rattle.alb_reduce.specs.Echelon.{IsAscendingBelow, IsIndex}
+use Rattle.alb_reduce.specs.Echelon.{IsAscendingBelow}
+use Rattle.alb_reduce.specs.Index.{IsIndex}
 use Rattle.alb_reduce.proofs.order.ascending.Given as goal
 
 abbrev pub invariant-loop-column : goal.invariant-loop-column

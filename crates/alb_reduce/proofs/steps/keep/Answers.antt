@@ -1,23 +1,8 @@
-use Rattle.std.proofs.Common.{refl}
-use Rattle.alb_reduce.proofs.EchelonLemmas.{positive, lead_below}
+use Rattle.alb_reduce.proofs.StateLemmas.{keeps_from_same}
 use Rattle.alb_reduce.proofs.steps.keep.Goals as goal
 
-pub returns-in-None : goal.returns-in-None
-returns-in-None c = (refl, rw c.in-None.ensures.none at c.in_ok-clear.ensures.cleared)
+pub keep_row-requires-clause-covers : goal.keep_row-requires-clause-covers
+keep_row-requires-clause-covers c = c.in_ok-open_lanes.ensures.covers c.args.field.now c.requires.ready
 
-pub add_pivot-requires-clause-lead_in : goal.add_pivot-requires-clause-lead_in
-add_pivot-requires-clause-lead_in c =
-    lead_below _ _ c.in-Some.column _ (positive c.requires.kept.above) c.in_ok-clear.ensures.cleared.residues c.in-Some.ensures.some
-
-pub returns-in_ok-add_pivot-in-Some : goal.returns-in_ok-add_pivot-in-Some
-returns-in_ok-add_pivot-in-Some c =
-    let cleared = c.in_ok-clear.ensures in
-    let added = c.in_ok-add_pivot-in-Some.ensures in
-    record {
-      pivots = added.pivots;
-      index = added.index c.args.row cleared.cleared;
-      rows = added.rows c.args.row cleared.cleared;
-      long = added.recipes_long;
-      residues = added.recipes_residues;
-      agree = λ w u all first. added.agree w u all (cleared.agrees w u all first);
-    }
+pub returns-clause-keeps : goal.returns-clause-keeps
+returns-clause-keeps c = keeps_from_same _ _ _ _ _ _ _ c.in_ok-open_lanes.ensures.same c.in_ok-offered.ensures.keeps

@@ -1,7 +1,8 @@
 use Rattle.std.proofs.Common.{◌≡◌, refl, rules, true}
 use Rattle.std.proofs.lemmas.Bool.{false≢true}
 use Rattle.alb_reduce.proofs.EchelonLemmas.{no_pivot}
-use Rattle.alb_reduce.proofs.StateLemmas.{found_pivot, form_recipe, items_long, items_read}
+use Rattle.alb_reduce.proofs.LaneLemmas.{items_read}
+use Rattle.alb_reduce.proofs.StateLemmas.{found_pivot, form_recipe, items_long}
 use Rattle.alb_reduce.proofs.reduced.Reduced.recipe_of.Goals as goal
 
 pub returns-in-None-clause-exactly : goal.returns-in-None-clause-exactly
