@@ -1,11 +1,24 @@
 """What the benchmarks share: the built program, and runs of it with their time and their peak memory, and monomials."""
 
 import os
+import subprocess
 import sys
 import tempfile
 
 TOP = os.path.dirname(os.path.dirname(os.path.realpath(__file__)))
 PROGRAM = os.path.join(TOP, "crates", "albert", "out", "albert")
+QUESTIONS = """generators 2a1b1c
+identity (x,x,y)
+identity (y,x,x)
+identiti x
+build
+prove ((ab)a)c - a(b(ac))
+prove (a,b,c)
+prove abcd
+polynomial (a,b,c)
+table
+quit
+"""
 
 
 def program():
@@ -79,3 +92,22 @@ def bracketings(word):
         return [word]
     halves = [(word[:k], word[k:]) for k in range(1, len(word))]
     return [factor(l) + factor(r) for left, right in halves for l in bracketings(left) for r in bracketings(right)]
+
+
+def claims_of(path):
+    """Returns a script of a check with the evidence that `prove` prints for the questions, and a faulty block."""
+    written = subprocess.run([path, "batch"], input=QUESTIONS.encode(), stdout=subprocess.PIPE, check=False).stdout.decode().splitlines()
+    blocks, inside = [], None
+    for line in written:
+        if line == "derivation" or line.startswith("table ("):
+            inside = []
+        if inside is not None:
+            inside.append(line)
+            if line == "end":
+                blocks.append(inside)
+                inside = None
+    lines = QUESTIONS.splitlines()
+    head = lines[: lines.index("build") + 1]
+    claims = [f"claim {line.removeprefix('prove ')}" for line in lines if line.startswith("prove ")]
+    pairs = zip(claims, blocks)
+    return "\n".join([*head, *("\n".join([claim, *block]) for claim, block in pairs), "claim a", "table (1,0,0)", "element 1 (1,0)", "end"]) + "\n"
