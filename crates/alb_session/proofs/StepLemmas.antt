@@ -36,7 +36,6 @@ record Shows (r : RulesView) (old : Session) (support : Support) (new : Session)
   pair : ((support.pair ≡ None) × (new.seen ≡ old.seen)) ⊎ ((p : Pair) × (support.pair ≡ Some p) × (p.degree ≡ new.seen))
 
 module _ (r : RulesView) (letters : List ℕ) where
-
   plain-shows : (answer : List ℕ) (old next : Session) (support : Support) (text : List ℕ) (new : Session) → next.seen ≡ old.seen → IsPlain answer next support text new → Shows r old support new
   plain-shows answer old next support text new same p =
       let e : new.seen ≡ old.seen = ap (λ (s : Session). s.seen) p.2 ∙ same in
