@@ -23,4 +23,4 @@ returns-in-Ok-clause-answers g c a is =
 -- src/answer.rt:68:1
 pub returns-clause-answers : goal.returns-clause-answers
 returns-clause-answers g c a is =
-    question-unasked (board_rules c.args.board.now) c.args.letters.now (pass_view c.args.pass.now) _ a (question_of c.args.question.now) is c.in-Err.ensures.none _ c.seen.ensures
+    question-unasked (board_rules c.args.board.now) c.args.letters.now (pass_view c.args.pass.now) _ a (question_of c.args.question.now) is c.in-Err.ensures.none _ c.seen-in-Err.ensures
