@@ -1,17 +1,16 @@
 -- Rows without the lanes of pivots.
-use Rattle.std.proofs.Common.{◌≡◌, ◌≢◌, ℕ, suc, zero, ◌+◌, ◌<◌, ◌≤◌, ◌⊎◌, inl, inr, List, [], ◌∷◌, ◌++◌, refl, arith, subst, sym, ap, ◌∙◌, length, get_or, map, take, replicate, set, true, false}
+use Rattle.std.proofs.Common.{◌≡◌, ◌≢◌, ℕ, suc, zero, ◌+◌, ◌<◌, ◌⊎◌, inl, inr, List, [], ◌∷◌, ◌++◌, refl, arith, subst, sym, ap, ◌∙◌, length, get_or, map, take, replicate, set, false}
 use Rattle.std.proofs.lemmas.Bool.{cases_eq}
 use Rattle.std.proofs.lemmas.List.{length-map, get_or-map, length_push, get_or_append_left, take_more, map_push, length-replicate, get_or-replicate, length-set}
 use Rattle.std.specs.Prelude.{Option, Some, None, MatchOption}
 use Rattle.std.specs.Option.{is_none}
-use Rattle.alb_rows.specs.Row.{Cells, entry, IsRow, IsRowOver}
 use Rattle.alb_rows.specs.Span.{Ascending}
 use Rattle.alb_rows.proofs.RowLemmas.{row_is_its_entries}
 use Rattle.alb_reduce.specs.declared.kept.Kept.{Kept}
 use Rattle.alb_reduce.specs.Index.{IsIndex}
-use Rattle.alb_reduce.specs.Lanes.{gather, lane_cells, lane_rows, AreFreeLanes, AreGathered, AreResidues, AreZero, Covers, IsFree, IsLaid, IsLaneRow}
-use Rattle.alb_reduce.specs.Echelon.{kept_rows, HasSameRows, IsEchelon, IsHeld, IsReady}
-use Rattle.alb_reduce.proofs.LaneLemmas.{ascending_once, ascending_le, cells_row, entry-lanes, lane_at, lane_entry, lane_zero}
+use Rattle.alb_reduce.specs.Lanes.{gather, lane_cells, lane_rows, AreFreeLanes, AreGathered, Covers, IsFree, IsLaid, IsLaneRow}
+use Rattle.alb_reduce.specs.Echelon.{kept_rows, HasSameRows, IsHeld, IsReady}
+use Rattle.alb_reduce.proofs.LaneLemmas.{cells_row, entry-lanes, lane_at, lane_entry, lane_zero}
 use Rattle.alb_reduce.proofs.SpreadLemmas.{rows_zero_at}
 
 -- ---- places

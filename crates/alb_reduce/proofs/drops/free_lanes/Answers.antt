@@ -1,4 +1,4 @@
-use Rattle.std.proofs.Common.{◌∙◌, get_or, sym}
+use Rattle.std.proofs.Common.{get_or, rules}
 use Rattle.alb_reduce.proofs.DropLemmas.{free-none, free-skip, free-more, place-taken}
 use Rattle.alb_reduce.proofs.drops.free_lanes.Goals as goal
 use Rattle.alb_reduce.proofs.drops.free_lanes.Goals.{then-is_none+in_ok-push, else-is_none}
@@ -13,5 +13,5 @@ loop-i-preserved c pivots index =
       | else-is_none w ↦
           rw w.lanes-is
           (free-skip c.args.live.now pivots _ _ (c.loop-i.invariant pivots index)
-          (place-taken pivots (get_or c.args.live.now c.loop-i.i 0) c.place_of.result (c.place_of.ensures pivots index) (sym c.is_none.ensures ∙ w.if-is_none.false)))
+          (place-taken pivots (get_or c.args.live.now c.loop-i.i 0) c.place_of.result (c.place_of.ensures pivots index) (search rules)))
     ]

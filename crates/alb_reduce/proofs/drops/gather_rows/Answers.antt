@@ -1,4 +1,4 @@
-use Rattle.std.proofs.Common.{◌≡◌, ◌<◌, [], length, get_or, map, arith, refl, rules}
+use Rattle.std.proofs.Common.{◌≡◌, ◌<◌, [], length, get_or, map, arith, rules}
 use Rattle.std.proofs.lemmas.List.{length-map, map-set}
 use Rattle.alb_reduce.specs.Lanes.{gather}
 use Rattle.alb_reduce.proofs.DropLemmas.{gathered-more}

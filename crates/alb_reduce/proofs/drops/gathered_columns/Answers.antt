@@ -1,5 +1,4 @@
-use Rattle.std.proofs.Common.{get_or, rules, ◌∙◌}
-use Rattle.std.proofs.lemmas.List.{take_all}
+use Rattle.std.proofs.Common.{rules}
 use Rattle.alb_reduce.proofs.DropLemmas.{gather-more}
 use Rattle.alb_reduce.proofs.drops.gathered_columns.Goals as goal
 
