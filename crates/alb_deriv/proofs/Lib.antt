@@ -4,6 +4,7 @@ pub mod Judged
 pub mod Within
 pub mod Fits
 pub mod TallyLemmas
+pub mod NumberedLemmas
 pub mod LineLemmas
 pub mod ListLemmas
 pub mod Appended
