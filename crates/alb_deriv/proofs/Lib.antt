@@ -15,3 +15,5 @@ pub mod Limited
 pub mod Counting
 pub mod Dimension
 pub mod Bounded
+pub mod NumberLists
+pub mod ValueLemmas

@@ -150,7 +150,7 @@ multiples-weigh w p c [] = same refl
 multiples-weigh w p c (t ∷ f) = plus (times (of_mod (c * t.0)) (same {a = w t.1} refl)) (multiples-weigh w p c f)
 
 -- multiples with their residues are multiples
-multiples-alike : (p c : ℕ) (f : Poly) → Alike p (multiples p c f) (scale c f)
+pub multiples-alike : (p c : ℕ) (f : Poly) → Alike p (multiples p c f) (scale c f)
 multiples-alike p c f = record { at = λ w. multiples-weigh w p c f }
 
 module _ (p : ℕ) (pos : 0 < p) (target : List ℕ) (fs : List Form) where

@@ -1,13 +1,15 @@
 -- The polynomials of lines by the numbers of monomials. Only private contracts cite this.
-use Rattle.std.specs.Prelude.{◌≡◌, ℕ, ◌<◌, ◌==◌, if◌then◌else◌, List, [], ◌∷◌, map, length, Result, Ok, Err}
+use Rattle.std.specs.Prelude.{◌≡◌, ℕ, ◌<◌, ◌==◌, if◌then◌else◌, Bool, true, false, not, List, [], ◌∷◌, map, length, All, Result, Ok, Err}
+use Rattle.std.specs.List.{list_any}
 use Rattle.gf_field.specs.Modular.{IsSameMod}
 use Rattle.gf_sums.specs.Sums.{weigh, reindex}
 use Rattle.alb_mono.specs.Listing.{Each}
-use Rattle.alb_mono.specs.Tree.{Tree}
+use Rattle.alb_mono.specs.Tree.{Tree, type_of, type_le}
 use Rattle.alb_poly.specs.Poly.{Poly, normal}
 use Rattle.alb_poly.specs.Instance.{IsAtMost}
 use Rattle.alb_nodes.specs.Nodes.{at}
-use Rattle.alb_deriv.specs.Answers.{IsPolyAtMost}
+use Rattle.alb_deriv.specs.declared.values.LineFault.{LineFault}
+use Rattle.alb_deriv.specs.declared.values.LineFault.TheVariants as faults
 
 -- the polynomial of terms by numbers
 abbrev pub read : List Tree → List (ℕ × ℕ) → Poly
@@ -48,3 +50,20 @@ said p ts f = normal p (read ts f)
 abbrev pub said_by : {E : Type 0} → ℕ → List Tree → Result (List (ℕ × ℕ)) E → Result Poly E
 said_by p ts (Ok f) = Ok (said p ts f)
 said_by p ts (Err e) = Err e
+
+-- a monomial of the polynomial has a type that is not at most the target
+abbrev pub is_past : List ℕ → Poly → Bool
+is_past target g = list_any (λ t. not (type_le (type_of (length target) t.1) target)) g
+
+-- terms that say `g`, where no monomial passes the target
+pub record AreBeside (target : List ℕ) (ts : List Tree) (g : Poly) (f : List (ℕ × ℕ)) : Type 0 where
+  pub fits : is_past target g ≡ false
+  pub is : read ts f ≡ g
+  pub within : All (λ t. t.1 < length ts) f
+
+-- terms that say `g`, or that a monomial of it passes the target
+abbrev pub IsBeside : List ℕ → List Tree → Poly → Result (List (ℕ × ℕ)) LineFault → Type 0
+IsBeside target ts g (Ok f) = AreBeside target ts g f
+IsBeside target ts g (Err faults.OutOfType) = is_past target g ≡ true
+IsBeside target ts g (Err faults.NoMemory) = Unit {0}
+IsBeside target ts g (Err other) = ⊥

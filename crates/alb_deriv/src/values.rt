@@ -3,12 +3,14 @@ ghost use Rattle.std.specs.List.{list_any};
 ghost use Rattle.gf_sums.specs.Sums.{reindex};
 ghost use Rattle.alb_mono.specs.Tree.{tree, Tree, degree, are_below, type_le, type_of};
 ghost use Rattle.alb_poly.specs.Poly.{Poly, normal};
-ghost use Rattle.alb_poly.specs.Consequence.{beside, forms};
+ghost use Rattle.alb_linear.specs.Identity.{IsLinearized};
+ghost use Rattle.alb_poly.specs.Consequence.{beside, form, forms};
+ghost use Rattle.alb_poly.specs.Instance.{instance};
 ghost use Rattle.alb_nodes.specs.Nodes.{at, Extends, AreDifferent};
 ghost use Rattle.alb_deriv.specs.Derivation.{fault, line_value, is_no_place, Instance, Times, Sum};
 ghost use Rattle.alb_deriv.specs.Views.{line, IsLine};
-ghost use Rattle.alb_deriv.specs.Answers.{AreDerivationRules, IsValue, error_at};
-ghost use Rattle.alb_deriv.specs.Numbered.{IsNumbered, IsFit, read, said, said_by};
+ghost use Rattle.alb_deriv.specs.Answers.{AreDerivationRules, IsPolyAtMost, IsValue, error_at};
+ghost use Rattle.alb_deriv.specs.Numbered.{IsNumbered, IsFit, IsBeside, read, said, said_by};
 
 use crate::numbered::{Numbered, all_numbers, filled_terms, terms_beside};
 use crate::tally::Tally;
@@ -81,9 +83,16 @@ fn instance_terms(
     linear: &Linear,
     ms: &[Mono],
 ) -> Result<Numbered, NoMemory>
+    requires one { 1 < field.now }
+    requires linearized { IsLinearized field.now (form linear.now) }
+    requires full { length ms.now ≡ linear.now.degree }
+    ensures value { IfOk result (λ f. said field.now numbers.new f ≡ normal field.now (instance (form linear.now) (map tree ms.now))) }
+    ensures numbered { (target : List ℕ) → IsPolyAtMost target (instance (form linear.now) (map tree ms.now)) → IfOk result (λ f. IsNumbered field.now target numbers.new f) }
+    ensures kept { OnOk result (Extends numbers.old numbers.new) }
 {
     let ns = all_numbers(alloc, numbers, ms)?;
     let list = filled_terms(alloc, numbers, linear.terms.terms(), &ns)?;
+    prove!(numbers.len() <= usize::MAX);
     collected(alloc, field, &list)
 }
 
@@ -143,6 +152,12 @@ fn beside_value(
     side: Side,
     m: &Mono,
 ) -> Result<Numbered, LineFault>
+    requires within { All (λ t. t.1 < length numbers.old) list.now }
+    requires factor { degree (tree m.now) ≤ 64 }
+    requires small { All (λ t. degree (at numbers.old t.1) ≤ 64) list.now }
+    requires generators { length target.now ≤ 26 }
+    ensures value { IsBeside target.now numbers.new (reindex (beside (side, tree m.now)) (read numbers.old list.now)) result }
+    ensures kept { OnOk result (Extends numbers.old numbers.new) }
 {
     let Ok(n) = numbers.number(m) else {
         return Err(LineFault::NoMemory);
@@ -258,6 +273,9 @@ pub fn value_of(
     match entry {
         Line::Instance(i, ms) => instance_value(alloc, rules, numbers, *i, ms),
         Line::Times(k, side, m) => times_value(alloc, rules, numbers, values, *k, *side, m),
-        Line::Sum(items) => sum_value(alloc, rules, values, items),
+        Line::Sum(items) => {
+            prove!(numbers.len() <= usize::MAX);
+            sum_value(alloc, rules, values, items)
+        }
     }
 }
