@@ -34,7 +34,9 @@ use Rattle.alb_poly.proofs.NormalLemmas.{normal-each, normal-alike, alike-is-nor
 use Rattle.alb_poly.proofs.Falling.{descending-beside}
 use Rattle.alb_linear.specs.Identity.{IsLinearized}
 use Rattle.alb_deriv.specs.Derivation.{Times, Sum, LaterLine, OutOfType, fault, line_value, is_no_place, are_within, earlier}
+use Rattle.alb_nodes.specs.Nodes.{at}
 use Rattle.alb_deriv.specs.Answers.{IsPolyAtMost}
+use Rattle.alb_deriv.specs.Numbered.{read}
 use Rattle.alb_deriv.proofs.Fits.{passes, passes-normal, pair_type, pair_at_most, instance-fit, all_below, within-degree}
 
 -- what a place that was found says
@@ -95,26 +97,23 @@ value-fit p target f ms g lin n b w e =
 
 -- ---- products
 
-pub passed-none : (target : List ℕ) (s : Side × Tree) (ts : List Term) →
-    ((k : ℕ) (d : Term) → k < length ts → type_le (listed (λ g. count g (tree (get_or ts k d).mono) + count g s.1) 0 (length target)) target ≡ true) →
-    list_any (λ t. passes target t.1) (reindex (beside s) (terms ts)) ≡ false
-passed-none target s [] h = refl
-passed-none target s (t ∷ ts) h =
-    rw (pair_type target s (tree t.mono), h 0 t (omega arith)) (passed-none target s ts (λ k d l. h (suc k) d (omega arith)))
+pub passed-none : (target : List ℕ) (s : Side × Tree) (ts : List Tree) (f : List (ℕ × ℕ)) →
+    ((k : ℕ) → k < length f → type_le (listed (λ g. count g (at ts (get_or f k (0, 0)).1) + count g s.1) 0 (length target)) target ≡ true) →
+    list_any (λ t. passes target t.1) (reindex (beside s) (read ts f)) ≡ false
+passed-none target s ts [] h = refl
+passed-none target s ts (t ∷ f) h =
+    rw (pair_type target s (at ts t.1), h 0 (omega arith)) (passed-none target s ts f (λ k l. h (suc k) (omega arith)))
 
 or_true : (a : Bool) → (a || true) ≡ true
 or_true true = refl
 or_true false = refl
 
-pub passed-some : (target : List ℕ) (s : Side × Tree) (ts : List Term) (k : ℕ) (t : Term) → k < length ts → t ≡ get_or ts k t →
-    type_le (listed (λ g. count g (tree t.mono) + count g s.1) 0 (length target)) target ≡ false →
-    list_any (λ t. passes target t.1) (reindex (beside s) (terms ts)) ≡ true
-passed-some target s [] k t l e h = absurd (omega arith)
-passed-some target s (u ∷ ts) zero t l e h =
-    let q : type_le (listed (λ g. count g (tree u.mono) + count g s.1) 0 (length target)) target ≡ false =
-    subst (λ x. type_le (listed (λ g. count g (tree x.mono) + count g s.1) 0 (length target)) target ≡ false) e h in
-    rw (pair_type target s (tree u.mono), q) refl
-passed-some target s (u ∷ ts) (suc k) t l e h = rw (passed-some target s ts k t (omega arith) e h) (or_true _)
+pub passed-some : (target : List ℕ) (s : Side × Tree) (ts : List Tree) (f : List (ℕ × ℕ)) (k : ℕ) → k < length f →
+    type_le (listed (λ g. count g (at ts (get_or f k (0, 0)).1) + count g s.1) 0 (length target)) target ≡ false →
+    list_any (λ t. passes target t.1) (reindex (beside s) (read ts f)) ≡ true
+passed-some target s ts [] k l h = absurd (omega arith)
+passed-some target s ts (t ∷ f) zero l h = rw (pair_type target s (at ts t.1), h) refl
+passed-some target s ts (t ∷ f) (suc k) l h = rw (passed-some target s ts f k (omega arith) h) (or_true _)
 
 pub residues-reindex : (p : ℕ) (h : Tree → Tree) (f : Poly) → AreResidues p f → AreResidues p (reindex h f)
 residues-reindex p h [] r k d l = absurd (omega arith)
