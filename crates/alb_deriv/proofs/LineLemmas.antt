@@ -226,6 +226,9 @@ none-at q (y ∷ ys) (suc k) x l e h = none-at q ys k x (omega arith) e (or_none
 pub item-place : (n : ℕ) (cs : List (ℕ × ℕ)) (k : ℕ) (c : ℕ × ℕ) → k < length cs → c ≡ get_or cs k c → list_any (λ d. is_no_place n d.1) cs ≡ false → is_no_place n c.1 ≡ false
 item-place n cs k c l e h = none-at (λ d. is_no_place n d.1) cs k c l e h
 
+pub table-one : (p : ℕ) → IsInTable p → 1 < p
+table-one p h = omega (arith, (IsPrime-from_table p h).above_one)
+
 pub normal-nil : (p : ℕ) → normal p [] ≡ []
 unfolding normal
 normal-nil p = refl

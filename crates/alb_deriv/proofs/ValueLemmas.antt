@@ -8,18 +8,20 @@ use Rattle.gf_field.proofs.Mod.{same, ◌⊙◌}
 use Rattle.gf_sums.specs.Sums.{weigh, scale, reindex}
 use Rattle.gf_sums.proofs.Alike.{Alike, joined, turned, append-alike, scale-alike, weigh-reindex}
 use Rattle.alb_mono.specs.Listing.{Each}
-use Rattle.alb_mono.specs.Tree.{Tree, AreBelow, degree, are_below}
+use Rattle.alb_mono.specs.Tree.{Tree, AreBelow, degree, are_below, tree}
+use Rattle.alb_mono.specs.declared.mono.Mono.{Mono}
 use Rattle.alb_mono.specs.declared.side.Side.{Side}
 use Rattle.alb_poly.specs.Poly.{Poly, AreResidues, IsSamePoly, normal}
 use Rattle.alb_poly.specs.Consequence.{beside}
-use Rattle.alb_poly.specs.Instance.{Form, IsAtMost}
-use Rattle.alb_poly.specs.Terms.{multiples}
+use Rattle.alb_poly.specs.Instance.{Form, IsAtMost, fill}
+use Rattle.alb_poly.specs.Terms.{multiples, terms}
+use Rattle.alb_poly.specs.declared.term.Term.{Term}
 use Rattle.alb_poly.proofs.AtMost.{degree-at_most}
 use Rattle.alb_poly.proofs.Types.{test_from_below}
 use Rattle.alb_poly.proofs.Consequence.{poly_alike, alike_poly, itself'}
 use Rattle.alb_poly.proofs.Multilinear.{each-from, all_from_each, each_from_all}
 use Rattle.alb_poly.proofs.NormalLemmas.{normal-alike}
-use Rattle.alb_nodes.specs.Nodes.{at, Extends}
+use Rattle.alb_nodes.specs.Nodes.{at, IsNumber, Extends}
 use Rattle.alb_nodes.proofs.NodeLemmas.{extends-at, extends-length}
 use Rattle.alb_deriv.specs.Derivation.{Times, Sum, DerivationFault, OutOfType, fault, line_value, earlier}
 use Rattle.alb_deriv.specs.Answers.{IsPolyAtMost, IsValue}
@@ -132,6 +134,20 @@ beside-numbered p target a b f s (Ok h) below n is = record {
   apart = subst AreApart (sym is.is) (beside-apart s (read a f) n.apart);
 }
 beside-numbered p target a b f s (Err x) below n is = tt
+
+-- the same with the monomial's number
+pub beside-same : (a b : List Tree) (f : List (ℕ × ℕ)) (n : ℕ) (m : Tree) (side : Side) → Extends a b → All (λ t. t.1 < length a) f → IsNumber b n m →
+    reindex (beside (side, at b n)) (read b f) ≡ reindex (beside (side, m)) (read a f)
+beside-same a b f n m side e h k = λ j. reindex (beside (side, k.is j)) (read-later a b f e (each_from_all (λ t. t.1 < length a) f h) j)
+
+-- ---- instances
+
+pub instance-read : (a b : List Tree) (ns ks : List ℕ) (ms : List Mono) (ts : List Term) (f : Poly) (out : List (ℕ × ℕ)) →
+    map (at a) ks ≡ map tree ms → ns ≡ ks → terms ts ≡ f → read b out ≡ reindex (fill (map (at a) ns)) (terms ts) → read b out ≡ reindex (fill (map tree ms)) f
+instance-read a b ns ks ms ts f out h q e is = is ∙ (λ j. reindex (fill ((ap (map (at a)) q ∙ h) j)) (e j))
+
+pub same-length : (a : List Tree) (ns ks : List ℕ) (ms : List Mono) → map (at a) ks ≡ map tree ms → ns ≡ ks → length ns ≡ length ms
+same-length a ns ks ms h q = ap length q ∙ sym (length-map ks (at a)) ∙ ap length h ∙ length-map ms tree
 
 -- ---- sums
 
