@@ -2,7 +2,8 @@
 use Rattle.std.proofs.Common.{◌≡◌, ℕ, zero, suc, ◌+◌, ◌*◌, ◌<◌, ◌≤◌, Bool, true, false, not, IsTrue, List, [], ◌∷◌, ◌++◌, length, map, take, get_or, refl, sym, ap, ◌∙◌, subst, arith, All, Some, None, Option, sum}
 use Rattle.std.specs.Prelude.{if◌then◌else◌, Result, Ok, Err, IfOk}
 use Rattle.std.specs.List.{list_any}
-use Rattle.std.proofs.lemmas.List.{map-append, length-map, get_or-map}
+use Rattle.std.proofs.lemmas.List.{map-append, length-map, length-append, get_or-map}
+use Rattle.std.proofs.Math.Seq.{get_or-append_seam}
 use Rattle.std.proofs.lemmas.List.Elements.{All-nil, All-cons}
 use Rattle.gf_field.proofs.Mod.{same, ◌⊙◌}
 use Rattle.gf_sums.specs.Sums.{weigh, scale, reindex}
@@ -97,6 +98,12 @@ said-later p target a b (f ∷ vs) e h =
     let first : said p b f ≡ said p a f = ap (normal p) (read-same p target a b f e (h 0 f (omega arith))) in
     let others : map (said p b) vs ≡ map (said p a) vs = said-later p target a b vs e (λ k d l. h (suc k) d (omega arith)) in
     λ j. first j ∷ others j
+
+-- what holds of all holds of the last
+pub all-last : {X : Type 0} (P : X → Type 0) (xs front : List X) (v : X) → All P xs → xs ≡ front ++ v ∷ [] → P v
+all-last P xs front v h e =
+    let whole : All P (front ++ v ∷ []) = subst (All P) e h in
+    subst P (get_or-append_seam front v [] v) (whole (length front) v (omega (arith, length-append front (v ∷ []))))
 
 -- ---- beside a monomial
 
