@@ -92,6 +92,7 @@ fn instance_terms(
 {
     let ns = all_numbers(alloc, numbers, ms)?;
     let list = filled_terms(alloc, numbers, linear.terms.terms(), &ns)?;
+    // Brings in that no monomial has two numbers.
     prove!(numbers.len() <= usize::MAX);
     collected(alloc, field, &list)
 }
@@ -274,6 +275,7 @@ pub fn value_of(
         Line::Instance(i, ms) => instance_value(alloc, rules, numbers, *i, ms),
         Line::Times(k, side, m) => times_value(alloc, rules, numbers, values, *k, *side, m),
         Line::Sum(items) => {
+            // Brings in that no monomial has two numbers.
             prove!(numbers.len() <= usize::MAX);
             sum_value(alloc, rules, values, items)
         }
