@@ -16,28 +16,23 @@ use Rattle.alb_mono.specs.Listing.{Each}
 use Rattle.alb_mono.specs.Tree.{Tree, leaf, node, degree, are_below, AreBelow, count, listed, type_le, cmp_monos, tree}
 use Rattle.alb_mono.specs.declared.mono.Mono.{Mono}
 use Rattle.alb_mono.specs.declared.side.Side.{Side}
-use Rattle.alb_mono.specs.declared.side.Side.TheVariants.{Left, Right}
 use Rattle.alb_poly.proofs.Consequence.{alike_poly, poly_alike}
-use Rattle.alb_poly.specs.Poly.{Poly, IsSamePoly, greatest_degree, AreResidues, normal}
+use Rattle.alb_poly.specs.Poly.{Poly, IsSamePoly, AreResidues, normal}
 use Rattle.gf_field.specs.Modular.{IsInTable}
 use Rattle.gf_field.proofs.Table.{IsPrime-from_table}
-use Rattle.alb_poly.specs.Terms.{terms, multiples}
-use Rattle.alb_poly.specs.declared.term.Term.{Term}
-use Rattle.alb_poly.specs.Instance.{IsAtMost, Form, instance}
-use Rattle.alb_poly.proofs.Multilinear.{each-from}
-use Rattle.alb_poly.proofs.Types.{test_from_below}
-use Rattle.alb_poly.proofs.AtMost.{degree-at_most}
+use Rattle.alb_poly.specs.Terms.{multiples}
+use Rattle.alb_poly.specs.Instance.{Form}
 use Rattle.alb_poly.specs.Consequence.{beside, form_at, form}
 use Rattle.alb_poly.specs.declared.rules.Linear.{Linear}
 use Rattle.alb_poly.proofs.Parts.{each_at}
-use Rattle.alb_poly.proofs.NormalLemmas.{normal-each, normal-alike, alike-is-normal, canonical-normal, degree-each, descending-canonical, canonical-descending, canonical-residues}
+use Rattle.alb_poly.proofs.NormalLemmas.{normal-alike, alike-is-normal, canonical-normal, descending-canonical, canonical-descending, canonical-residues}
 use Rattle.alb_poly.proofs.Falling.{descending-beside}
 use Rattle.alb_linear.specs.Identity.{IsLinearized}
-use Rattle.alb_deriv.specs.Derivation.{Times, Sum, LaterLine, OutOfType, fault, line_value, is_no_place, are_within, earlier}
+use Rattle.alb_deriv.specs.Derivation.{Times, Sum, OutOfType, fault, line_value, is_no_place, are_within, earlier}
 use Rattle.alb_nodes.specs.Nodes.{at}
 use Rattle.alb_deriv.specs.Answers.{IsPolyAtMost}
 use Rattle.alb_deriv.specs.Numbered.{read}
-use Rattle.alb_deriv.proofs.Fits.{passes, passes-normal, pair_type, pair_at_most, instance-fit, all_below, within-degree}
+use Rattle.alb_deriv.proofs.Fits.{passes, passes-normal, pair_type, pair_at_most, all_below, within-degree}
 
 -- what a place that was found says
 pub record IsPlace (n i k : ℕ) : Type 0 where

@@ -1,19 +1,16 @@
 -- Lists of numbers and of terms by numbers, while there come more numbers.
-use Rattle.std.proofs.Common.{◌≡◌, ℕ, zero, suc, ◌+◌, ◌<◌, ◌≤◌, List, [], ◌∷◌, ◌++◌, length, map, take, get_or, IsTrue, refl, sym, ap, ◌∙◌, subst, arith, All}
+use Rattle.std.proofs.Common.{◌≡◌, ℕ, ◌+◌, ◌<◌, List, [], ◌∷◌, ◌++◌, length, map, take, get_or, sym, ap, ◌∙◌, arith, All}
 use Rattle.std.proofs.lemmas.List.{take_more, map-append}
 use Rattle.std.proofs.lemmas.List.Elements.{All-push, All-map}
 use Rattle.gf_sums.specs.Sums.{reindex}
-use Rattle.alb_mono.specs.Listing.{Each}
 use Rattle.alb_mono.specs.Tree.{Tree, tree}
 use Rattle.alb_mono.specs.declared.mono.Mono.{Mono}
-use Rattle.alb_mono.specs.declared.side.Side.{Side}
 use Rattle.alb_poly.proofs.Multilinear.{each_from_all}
 use Rattle.alb_poly.specs.Poly.{Poly, AreResidues}
-use Rattle.alb_poly.specs.Instance.{fill}
 use Rattle.alb_poly.specs.Terms.{term, terms}
 use Rattle.alb_poly.specs.declared.term.Term.{Term}
 use Rattle.alb_nodes.specs.Nodes.{at, IsNumber, Extends}
-use Rattle.alb_nodes.proofs.NodeLemmas.{extends-at, extends-length, map-later}
+use Rattle.alb_nodes.proofs.NodeLemmas.{extends-length, map-later}
 use Rattle.alb_deriv.specs.Numbered.{read}
 use Rattle.alb_deriv.proofs.NumberedLemmas.{read-later}
 

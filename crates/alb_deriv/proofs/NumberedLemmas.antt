@@ -1,18 +1,16 @@
 -- The polynomials of lines by the numbers of monomials.
-use Rattle.std.proofs.Common.{◌≡◌, ℕ, zero, suc, ◌+◌, ◌*◌, ◌%◌, ◌<◌, ◌≤◌, Bool, true, false, not, List, [], ◌∷◌, ◌++◌, length, map, take, get_or, refl, sym, ap, ◌∙◌, subst, arith, inl, inr, All}
+use Rattle.std.proofs.Common.{◌≡◌, ℕ, ◌%◌, ◌<◌, true, false, not, List, [], ◌∷◌, length, refl, sym, ap, ◌∙◌, arith, inl, inr}
 use Rattle.std.specs.Prelude.{◌==◌, ◌&&◌, Result, Ok, Err, IfOk}
 use Rattle.std.specs.List.{list_any}
 use Rattle.std.proofs.Math.Nat.{mod-eq_of_lt}
-use Rattle.std.proofs.lemmas.Bool.{cases_Bool, false≢true}
+use Rattle.std.proofs.lemmas.Bool.{cases_Bool}
 use Rattle.std.proofs.lemmas.Bool.Decides.{nat_tests}
-use Rattle.std.proofs.lemmas.List.{take_more, map-append}
-use Rattle.gf_field.specs.Modular.{IsSameMod}
 use Rattle.gf_field.proofs.Mod.{same, ◌⊙◌}
 use Rattle.gf_sums.specs.Sums.{coefficient, reindex, scale, weigh}
 use Rattle.alb_poly.proofs.Multilinear.{each-from}
-use Rattle.gf_sums.proofs.Alike.{Alike, joined, turned, weigh-reindex}
+use Rattle.gf_sums.proofs.Alike.{weigh-reindex}
 use Rattle.alb_mono.specs.Listing.{Each}
-use Rattle.alb_mono.specs.Tree.{Tree, leaf, node, same_tree, type_of, type_le}
+use Rattle.alb_mono.specs.Tree.{Tree, leaf, node, same_tree}
 use Rattle.alb_mono.specs.declared.side.Side.{Side}
 use Rattle.alb_mono.specs.declared.side.Side.TheVariants.{Left, Right}
 use Rattle.alb_poly.specs.Poly.{Poly, normal}
@@ -20,7 +18,7 @@ use Rattle.alb_poly.specs.Consequence.{beside}
 use Rattle.alb_poly.proofs.Consequence.{tree_tells}
 use Rattle.alb_poly.proofs.NormalLemmas.{alike-normal}
 use Rattle.alb_nodes.specs.Nodes.{at, Extends, AreDifferent}
-use Rattle.alb_nodes.proofs.NodeLemmas.{extends-at, extends-length}
+use Rattle.alb_nodes.proofs.NodeLemmas.{extends-at}
 use Rattle.alb_deriv.specs.Derivation.{passes_target}
 use Rattle.alb_deriv.specs.Numbered.{read, AreAlike, AreApart, IsCoefficient, IsFit, IsNumbered, said}
 use Rattle.alb_deriv.proofs.Fits.{passes, passes-normal}
@@ -112,7 +110,7 @@ numbers-apart ts (t ∷ f) d w h = (numbers-others ts t.1 f d w.0 w.1 h.0, numbe
 
 pub said-alike : (p : ℕ) (ts : List Tree) (f g : List (ℕ × ℕ)) → 0 < p → AreAlike p f g → said p ts f ≡ said p ts g
 said-alike p ts f g pos h =
-    alike-normal p (read ts f) (read ts g) pos (record { at = λ w. same (weigh-reindex w (at ts) f) ⊙ h (λ k. w (at ts k)) ⊙ same (sym (weigh-reindex w (at ts) g)); })
+    alike-normal p (read ts f) (read ts g) pos (record { at = λ w. same (weigh-reindex w (at ts) f) ⊙ h (λ k. w (at ts k)) ⊙ same (sym (weigh-reindex w (at ts) g)) })
 
 pub once-weigh : (w : ℕ → ℕ) (f : List (ℕ × ℕ)) → weigh w (scale 1 f) ≡ weigh w f
 once-weigh w [] = refl

@@ -1,5 +1,5 @@
 -- Sums that are collected by the numbers of monomials.
-use Rattle.std.proofs.Common.{◌≡◌, ℕ, zero, suc, ◌+◌, ◌*◌, ◌%◌, ◌<◌, Bool, true, false, not, List, [], ◌∷◌, ◌++◌, length, take, set, get_or, slice_get, Some, None, refl, sym, ap, ◌∙◌, subst, arith, inl, inr, All}
+use Rattle.std.proofs.Common.{◌≡◌, ℕ, zero, suc, ◌+◌, ◌*◌, ◌%◌, ◌<◌, true, false, not, List, [], ◌∷◌, ◌++◌, length, take, set, get_or, slice_get, Some, None, refl, sym, ap, ◌∙◌, subst, arith, inl, inr}
 use Rattle.std.specs.Prelude.{if◌then◌else◌, ◌==◌}
 use Rattle.std.specs.List.{list_any, IsDistinct, AllByRecursion}
 use Rattle.std.proofs.lemmas.Bool.{cases_Bool, false≢true, eqb-true}
@@ -13,7 +13,7 @@ use Rattle.gf_field.proofs.Mod.{same, ◌⊙◌, plus, times, of_mod}
 use Rattle.gf_sums.specs.Sums.{weigh, scale}
 use Rattle.gf_sums.proofs.Totals.{weigh-append}
 use Rattle.alb_mono.specs.Listing.{Each}
-use Rattle.alb_poly.proofs.Multilinear.{each-append, all_from_each}
+use Rattle.alb_poly.proofs.Multilinear.{each-append}
 use Rattle.alb_deriv.specs.Numbered.{AreAlike, AreApart, IsCoefficient, before}
 use Rattle.alb_deriv.specs.Tally.{paired, nonzero}
 

@@ -1,12 +1,12 @@
 -- The polynomials of single lines, by the numbers of monomials.
-use Rattle.std.proofs.Common.{◌≡◌, ℕ, zero, suc, ◌+◌, ◌*◌, ◌<◌, ◌≤◌, Bool, true, false, not, IsTrue, List, [], ◌∷◌, ◌++◌, length, map, take, get_or, refl, sym, ap, ◌∙◌, subst, arith, All, Some, None, Option, sum}
+use Rattle.std.proofs.Common.{◌≡◌, ℕ, suc, ◌+◌, ◌*◌, ◌<◌, ◌≤◌, Bool, IsTrue, List, [], ◌∷◌, ◌++◌, length, map, take, get_or, refl, sym, ap, ◌∙◌, subst, arith, All, Some, None, Option, sum}
 use Rattle.std.specs.Prelude.{if◌then◌else◌, Result, Ok, Err, IfOk}
 use Rattle.std.specs.List.{list_any}
 use Rattle.std.proofs.lemmas.List.{map-append, length-map, length-append, get_or-map}
 use Rattle.std.proofs.Math.Seq.{get_or-append_seam}
 use Rattle.std.proofs.lemmas.List.Elements.{All-nil, All-cons}
 use Rattle.gf_field.proofs.Mod.{same, ◌⊙◌}
-use Rattle.gf_sums.specs.Sums.{weigh, scale, reindex}
+use Rattle.gf_sums.specs.Sums.{scale, reindex}
 use Rattle.gf_sums.proofs.Alike.{Alike, joined, turned, append-alike, scale-alike, weigh-reindex}
 use Rattle.alb_mono.specs.Listing.{Each}
 use Rattle.alb_mono.specs.Tree.{Tree, AreBelow, degree, are_below, tree}
@@ -19,14 +19,14 @@ use Rattle.alb_poly.specs.Terms.{multiples, terms}
 use Rattle.alb_poly.specs.declared.term.Term.{Term}
 use Rattle.alb_poly.proofs.AtMost.{degree-at_most}
 use Rattle.alb_poly.proofs.Types.{test_from_below}
-use Rattle.alb_poly.proofs.Consequence.{poly_alike, alike_poly, itself'}
+use Rattle.alb_poly.proofs.Consequence.{poly_alike, itself'}
 use Rattle.alb_poly.proofs.Multilinear.{each-from, all_from_each, each_from_all}
 use Rattle.alb_poly.proofs.NormalLemmas.{normal-alike}
 use Rattle.alb_nodes.specs.Nodes.{at, IsNumber, Extends}
 use Rattle.alb_nodes.proofs.NodeLemmas.{extends-at, extends-length}
 use Rattle.alb_deriv.specs.Derivation.{Times, Sum, DerivationFault, OutOfType, fault, line_value, earlier}
 use Rattle.alb_deriv.specs.Answers.{IsPolyAtMost, IsValue}
-use Rattle.alb_deriv.specs.Numbered.{read, said, said_by, is_past, AreAlike, AreApart, AreBeside, IsBeside, IsCoefficient, IsFit, IsNumbered}
+use Rattle.alb_deriv.specs.Numbered.{read, said, said_by, is_past, AreAlike, AreApart, IsBeside, IsCoefficient, IsFit, IsNumbered}
 use Rattle.alb_deriv.specs.declared.values.LineFault.{LineFault}
 use Rattle.alb_deriv.specs.declared.values.LineFault.TheVariants as faults
 use Rattle.alb_deriv.proofs.Fits.{passes}
@@ -68,7 +68,7 @@ pub numbered-letters : (p : ℕ) (target : List ℕ) (ts : List Tree) (f : List 
 numbered-letters p target ts f long h =
     all_from_each (λ t. IsTrue (are_below 26 (at ts t.1))) f
     (each-from (λ t. IsFit target ts t.1) (λ t. IsTrue (are_below 26 (at ts t.1))) f
-      (λ t q. below-more (length target) 26 (at ts t.1) long (test_from_below (length target) (at ts t.1) q.1.below)) h.fit)
+    (λ t q. below-more (length target) 26 (at ts t.1) long (test_from_below (length target) (at ts t.1) q.1.below)) h.fit)
 
 -- ---- more numbers
 
@@ -166,7 +166,7 @@ read-sum : (ts : List Tree) (f : List (ℕ × ℕ)) (c : ℕ) (g : List (ℕ × 
 read-sum ts f c g = map-append (λ (t : ℕ × ℕ). (t.0, at ts t.1)) f (scale c g) ∙ ap (λ (h : Poly). read ts f ++ h) (read-scale ts c g)
 
 pub read-alike : (p : ℕ) (ts : List Tree) (f g : List (ℕ × ℕ)) → AreAlike p f g → Alike p (read ts f) (read ts g)
-read-alike p ts f g h = record { at = λ w. same (weigh-reindex w (at ts) f) ⊙ h (λ k. w (at ts k)) ⊙ same (sym (weigh-reindex w (at ts) g)); }
+read-alike p ts f g h = record { at = λ w. same (weigh-reindex w (at ts) f) ⊙ h (λ k. w (at ts k)) ⊙ same (sym (weigh-reindex w (at ts) g)) }
 
 -- one more multiple of a line
 pub sum-line : (p : ℕ) (pos : 0 < p) (target : List ℕ) (fs : List Form) (ts : List Tree) (gs : List Poly) (values : List (List (ℕ × ℕ))) (cs : List (ℕ × ℕ)) (i : ℕ) (c : ℕ × ℕ) (k : ℕ)

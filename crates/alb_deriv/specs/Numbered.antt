@@ -1,5 +1,5 @@
 -- The polynomials of lines by the numbers of monomials. Only private contracts cite this.
-use Rattle.std.specs.Prelude.{◌≡◌, ℕ, ◌<◌, ◌==◌, if◌then◌else◌, Bool, true, false, not, List, [], ◌∷◌, map, length, All, Result, Ok, Err}
+use Rattle.std.specs.Prelude.{◌≡◌, ℕ, ◌<◌, ◌==◌, if◌then◌else◌, Bool, true, false, not, List, [], ◌∷◌, length, All, Result, Ok, Err}
 use Rattle.std.specs.List.{list_any}
 use Rattle.gf_field.specs.Modular.{IsSameMod}
 use Rattle.gf_sums.specs.Sums.{weigh, reindex}

@@ -79,12 +79,7 @@ pub fn filled_terms(
 }
 
 // The number of a product with the monomial `n`, which stands on the named side.
-fn beside_number(
-    numbers: &mut Numbers,
-    side: Side,
-    k: usize,
-    n: usize,
-) -> Result<usize, NoMemory>
+fn beside_number(numbers: &mut Numbers, side: Side, k: usize, n: usize) -> Result<usize, NoMemory>
     requires within { k < length numbers.old }
     requires factor { n < length numbers.old }
     ensures value { IfOk result (λ j. at numbers.new j ≡ beside (side, at numbers.old n) (at numbers.old k)) }

@@ -60,11 +60,7 @@ fn place(n: usize, k: u64) -> Option<usize>
 }
 
 // The terms, each number once and without zeros.
-fn collected(
-    alloc: Global,
-    field: &Field,
-    list: &[(Residue, usize)],
-) -> Result<Numbered, NoMemory>
+fn collected(alloc: Global, field: &Field, list: &[(Residue, usize)]) -> Result<Numbered, NoMemory>
     requires residues { All (λ t. t.0 < field.now) list.now }
     requires one { 1 < field.now }
     ensures numbered { (target : List ℕ) (ts : List Tree) → AreDifferent ts → All (λ t. IsFit target ts t.1) list.now → IfOk result (λ f. IsNumbered field.now target ts f) }

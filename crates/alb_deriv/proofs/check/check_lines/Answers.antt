@@ -23,7 +23,7 @@ returns-in-Err-clause-exact c =
     let here = fault-here p target fs xs k c.index-lines-k.result (first_fault p target fs [] (map line xs)) c.loop-k-test.true c.index-lines-k.is c.loop-k.invariant.found in
     subst (λ (e : DerivError). TellsFault e (first_fault p target fs [] (map line xs))) (sym c.at.ensures)
     (tells-at c.in-Err.fault (fault p target fs gs (line c.index-lines-k.result)) (k + 1) _ _
-      (c.in-Err.ensures.value gs (ap (map (said p c.loop-k.numbers)) c.deref.ensures.value ∙ c.loop-k.invariant.value)) here)
+    (c.in-Err.ensures.value gs (ap (map (said p c.loop-k.numbers)) c.deref.ensures.value ∙ c.loop-k.invariant.value)) here)
 
 pub loop-k-preserved : goal.loop-k-preserved
 loop-k-preserved c =
@@ -96,7 +96,7 @@ returns-in-Ok-poly_of-clause-exact c =
     let ends : map (said p ts) values ≡ map (said p ts) front ++ said p ts value ∷ [] = ap (map (said p ts)) c.in-Some.ensures.items ∙ map_push (said p ts) front value in (
       found-all p target fs xs k _ c.loop-k-test.false c.loop-k.invariant.found,
       c.in-Ok-poly_of.ensures.value
-      ∙ last-found p target fs xs k (map (said p ts) values) (map (said p ts) front) (said p ts value) c.loop-k-test.false c.loop-k.invariant.value ends,
+          ∙ last-found p target fs xs k (map (said p ts) values) (map (said p ts) front) (said p ts value) c.loop-k-test.false c.loop-k.invariant.value ends,
     )
 
 pub returns-in_default-clause-exact : goal.returns-in_default-clause-exact

@@ -1,4 +1,4 @@
-use Rattle.std.proofs.Common.{◌≡◌, ◌∙◌, ◌<◌, ℕ, List, All, length, map, take, sym, ap, subst}
+use Rattle.std.proofs.Common.{◌∙◌, ◌<◌, All, length, map, take, sym, ap, subst}
 use Rattle.alb_mono.specs.Tree.{tree}
 use Rattle.alb_nodes.specs.Nodes.{at}
 use Rattle.alb_nodes.proofs.NodeLemmas.{extends-all}

@@ -1,4 +1,4 @@
-use Rattle.std.proofs.Common.{◌≡◌, ◌<◌, ℕ, map, take, length, All}
+use Rattle.std.proofs.Common.{◌≡◌, ◌<◌, map, take, length, All}
 use Rattle.alb_mono.specs.Tree.{tree}
 use Rattle.alb_nodes.specs.Nodes.{at, Extends}
 use Rattle.alb_deriv.proofs.numbered.all_numbers.Given as goal

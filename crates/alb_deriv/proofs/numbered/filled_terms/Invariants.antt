@@ -1,4 +1,4 @@
-use Rattle.std.proofs.Common.{◌≡◌, ◌<◌, ℕ, map, take, length, All}
+use Rattle.std.proofs.Common.{◌≡◌, ◌<◌, map, take, length, All}
 use Rattle.gf_sums.specs.Sums.{reindex}
 use Rattle.alb_poly.specs.Instance.{fill}
 use Rattle.alb_poly.specs.Terms.{terms}

@@ -1,4 +1,4 @@
-use Rattle.std.proofs.Common.{◌≡◌, ◌<◌, ℕ, take, length, All}
+use Rattle.std.proofs.Common.{◌≡◌, ◌<◌, take, length, All}
 use Rattle.gf_sums.specs.Sums.{reindex}
 use Rattle.alb_poly.specs.Consequence.{beside}
 use Rattle.alb_nodes.specs.Nodes.{at, Extends}

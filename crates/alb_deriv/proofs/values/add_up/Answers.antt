@@ -73,7 +73,7 @@ returns-clause-numbered c = λ ts d h.
     let tally = c.loop-c.sum in
     from_three c.close.result (λ f. f ≡ nonzero (tallied tally)) AreApart (λ f. Each (IsCoefficient p) f) (λ f. IsNumbered p target ts f)
     (λ f e a k. collected-numbered p target ts f d
-      (subst (Each (λ t. IsFit target ts t.1)) (sym e)
-        (nonzero-each (λ t. IsFit target ts t.1) (tallied tally) (paired-each (IsFit target ts) tally.coefs.items tally.numbers.keys (c.loop-c.invariant.fit ts h))))
-      k a)
+    (subst (Each (λ t. IsFit target ts t.1)) (sym e)
+    (nonzero-each (λ t. IsFit target ts t.1) (tallied tally) (paired-each (IsFit target ts) tally.coefs.items tally.numbers.keys (c.loop-c.invariant.fit ts h))))
+    k a)
     c.close.ensures.value c.close.ensures.apart (c.close.ensures.coefs p c.loop-c.invariant.tally)

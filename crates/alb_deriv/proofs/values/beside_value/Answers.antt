@@ -1,4 +1,4 @@
-use Rattle.std.proofs.Common.{◌≡◌, ◌∙◌, Bool, true, false, sym, subst}
+use Rattle.std.proofs.Common.{◌≡◌, ◌∙◌, true, false, sym, subst}
 use Rattle.alb_mono.specs.Tree.{tree}
 use Rattle.alb_poly.specs.Poly.{Poly}
 use Rattle.alb_deriv.specs.Numbered.{is_past}

@@ -26,7 +26,7 @@ collected-requires-clause-residues c =
     let b = c.filled_terms.new.numbers in
     let f = c.args.linear.now.terms in
     let is = instance-read c.all_numbers.new.numbers b c.deref.result.now c.in_ok-ns.ns.items c.args.ms.now c.terms.result.now f c.in_ok-list.list.items
-        c.in_ok-ns.ensures.value c.deref.ensures.value c.terms.ensures.value c.in_ok-list.ensures.value in
+    c.in_ok-ns.ensures.value c.deref.ensures.value c.terms.ensures.value c.in_ok-list.ensures.value in
     subst (All (λ (t : ℕ × ℕ). t.0 < p)) (sym c.deref-2.ensures.value)
     (residues-from p b c.in_ok-list.list.items (subst (AreResidues p) (sym is) (residues-reindex p (fill (map tree c.args.ms.now)) f c.requires.linearized.residues)))
 
@@ -36,7 +36,7 @@ returns-clause-value c =
     let b = c.filled_terms.new.numbers in
     let f = c.args.linear.now.terms in
     let is = instance-read c.all_numbers.new.numbers b c.deref.result.now c.in_ok-ns.ns.items c.args.ms.now c.terms.result.now f c.in_ok-list.list.items
-        c.in_ok-ns.ensures.value c.deref.ensures.value c.terms.ensures.value c.in_ok-list.ensures.value in
+    c.in_ok-ns.ensures.value c.deref.ensures.value c.terms.ensures.value c.in_ok-list.ensures.value in
     IfOk-weaker c.collected.result (λ g. said p b g ≡ said p b c.deref-2.result.now) (λ g. said p b g ≡ normal p (instance (form c.args.linear.now) (map tree c.args.ms.now)))
     (λ g e. e ∙ ap (normal p) (ap (read b) c.deref-2.ensures.value ∙ is))
     (c.collected.ensures.value b)
@@ -47,7 +47,7 @@ returns-clause-numbered c = λ target fit.
     let f = c.args.linear.now.terms in
     let list = c.in_ok-list.list.items in
     let is = instance-read c.all_numbers.new.numbers b c.deref.result.now c.in_ok-ns.ns.items c.args.ms.now c.terms.result.now f list
-        c.in_ok-ns.ensures.value c.deref.ensures.value c.terms.ensures.value c.in_ok-list.ensures.value in
+    c.in_ok-ns.ensures.value c.deref.ensures.value c.terms.ensures.value c.in_ok-list.ensures.value in
     c.collected.ensures.numbered target b c.len.ensures.different
     (subst (All (λ (t : ℕ × ℕ). IsFit target b t.1)) (sym c.deref-2.ensures.value)
-      (all_from_each (λ (t : ℕ × ℕ). IsFit target b t.1) list (fit-from target b list c.in_ok-list.ensures.within (subst (IsPolyAtMost target) (sym is) fit))))
+    (all_from_each (λ (t : ℕ × ℕ). IsFit target b t.1) list (fit-from target b list c.in_ok-list.ensures.within (subst (IsPolyAtMost target) (sym is) fit))))

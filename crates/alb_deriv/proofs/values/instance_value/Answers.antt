@@ -24,4 +24,4 @@ returns-in-Ok-clause-numbered c =
     let ms = c.args.ms.now in
     c.in-Ok.ensures.numbered target
     (instance-fit target (form c.index-linear.result.now) (map tree ms) lin.multilinear (length-map ms tree ∙ c.if-ms-linear.false) (all_below (length target) ms c.requires.known)
-      (sym c.if-not-are_within.ensures))
+    (sym c.if-not-are_within.ensures))

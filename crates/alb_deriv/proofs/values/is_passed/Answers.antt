@@ -1,4 +1,4 @@
-use Rattle.std.proofs.Common.{inl, inr, ℕ, ◌≡◌, ◌+◌, get_or, length, arith, sym, subst, true}
+use Rattle.std.proofs.Common.{inl, inr, ◌≡◌, ◌+◌, get_or, length, arith, sym, subst, true}
 use Rattle.std.proofs.lemmas.Bool.{cases_lt}
 use Rattle.alb_mono.specs.Tree.{count, listed, type_le}
 use Rattle.alb_nodes.specs.Nodes.{at}

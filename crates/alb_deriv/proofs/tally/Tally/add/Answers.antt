@@ -3,7 +3,7 @@ use Rattle.std.specs.List.{list_any}
 use Rattle.std.specs.Prelude.{◌==◌}
 use Rattle.std.proofs.lemmas.List.{get_or_default}
 use Rattle.alb_deriv.specs.Numbered.{IsFit}
-use Rattle.alb_deriv.proofs.TallyLemmas.{key-known, tally-new, tally-known, new-each, set-each}
+use Rattle.alb_deriv.proofs.TallyLemmas.{key-known, tally-new, tally-known, new-each}
 use Rattle.alb_deriv.proofs.tally.Tally.add.Goals as goal
 
 pub returns-then-is_new-clause-value : goal.returns-then-is_new-clause-value

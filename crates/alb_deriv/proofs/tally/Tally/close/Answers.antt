@@ -1,4 +1,4 @@
-use Rattle.std.proofs.Common.{◌≡◌, ◌∙◌, ◌<◌, ℕ, List, sym, subst}
+use Rattle.std.proofs.Common.{◌∙◌, ◌<◌, sym, subst}
 use Rattle.alb_mono.specs.Listing.{Each}
 use Rattle.alb_deriv.specs.Numbered.{AreApart, IsCoefficient}
 use Rattle.alb_deriv.specs.Tally.{tallied, paired, nonzero}
