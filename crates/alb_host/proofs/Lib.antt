@@ -1,4 +1,5 @@
 pub mod WordLemmas
+pub mod ShareLemmas
 pub mod ReportLemmas
 pub mod StatusLemmas
 pub mod FileLemmas

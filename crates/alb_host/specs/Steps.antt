@@ -29,7 +29,6 @@ use Rattle.alb_host.specs.Runs.{AreOpened, AreEach, status_after}
 use Rattle.alb_host.specs.declared.sessions.Ran.{Ran}
 use Rattle.alb_host.specs.declared.collect.Built.{Built}
 use Rattle.alb_host.specs.declared.files.Opened.{Opened}
-use Rattle.alb_host.specs.declared.jobs.Common.{Common}
 use Rattle.alb_host.specs.declared.jobs.Start.{Start}
 use Rattle.alb_host.specs.declared.jobs.Job.{Job}
 use Rattle.alb_host.specs.declared.jobs.Job.TheVariants as job
@@ -114,11 +113,11 @@ module _ {I K : Type 0} (source : sources.Ghosts I) (sink : sinks.Ghosts K) wher
   IsDone b letters (job.Serve s) (done.Built q e) = ⊥
 
 -- the rules of the board are fit for tables, each of their generators has a letter, and there are 1 to 16 workers
-pub record IsCommon {G : Type 0} (c : Common G) : Type 0 where
-  pub rules : AreRules (rules_view (board_rules c.board.now))
-  pub letters : length c.letters.now ≡ length (board_rules c.board.now).target
-  pub some_worker : 0 < c.workers
-  pub few_workers : c.workers ≤ 16
+pub record IsCommon (b : Board) (letters : List ℕ) (workers : ℕ) : Type 0 where
+  pub rules : AreRules (rules_view (board_rules b))
+  pub letters_fit : length letters ≡ length (board_rules b).target
+  pub some_worker : 0 < workers
+  pub few_workers : workers ≤ 16
 
 -- as many were done as there were jobs, each at its place
 pub record AreDone {I K : Type 0} (source : sources.Ghosts I) (sink : sinks.Ghosts K) (b : Board) (letters : List ℕ) (jobs : List (Job I K)) (dones : List (Done I K)) : Type 0 where

@@ -47,15 +47,6 @@ pub enum Done<I: Drop, K: Drop> {
     Served(SessionReport<I, K>),
 }
 
-/// What all jobs work on.
-#[derive(Drop)]
-pub struct Common<'a, G: Gate> {
-    pub board: &'a Board,
-    pub letters: &'a Letters,
-    pub workers: u32,
-    pub gate: &'a G,
-}
-
 // Serves a session.
 fn serve_session<R: Wait, I: Source + Drop, K: Sink + Drop>(
     rt: &R,
@@ -101,34 +92,23 @@ fn serve_session<R: Wait, I: Source + Drop, K: Sink + Drop>(
 fn work<R: Threads + Wait + Sync, G: Gate, I: Source + Drop, K: Sink + Drop>(
     rt: &R,
     alloc: Global,
-    common: &Common<G>,
+    board: &Board,
+    letters: &Letters,
+    workers: u32,
+    gate: &G,
     job: Job<I, K>,
 ) -> Done<I, K>
-    requires common { IsCommon common.now }
-    requires ready { IsReady common.now.board.now job }
-    ensures { IsDone I.Source K.Sink common.now.board.now common.now.letters.now job result }
+    requires common { IsCommon board.now letters.now workers }
+    requires ready { IsReady board.now job }
+    ensures { IsDone I.Source K.Sink board.now letters.now job result }
 {
     match job {
         Job::Build(pass, first) => {
             let mut pass = pass;
-            let end = build_on_board(
-                rt,
-                alloc,
-                common.board,
-                &mut pass,
-                first,
-                common.workers,
-                common.gate,
-            );
+            let end = build_on_board(rt, alloc, board, &mut pass, first, workers, gate);
             Done::Built(pass, end)
         }
-        Job::Serve(start) => Done::Served(serve_session(
-            rt,
-            alloc,
-            common.board,
-            common.letters,
-            start,
-        )),
+        Job::Serve(start) => Done::Served(serve_session(rt, alloc, board, letters, start)),
     }
 }
 
@@ -136,20 +116,23 @@ fn work<R: Threads + Wait + Sync, G: Gate, I: Source + Drop, K: Sink + Drop>(
 pub fn work_all<R: Threads + Wait + Sync, G: Gate, I: Source + Send + Drop, K: Sink + Send + Drop>(
     rt: &R,
     alloc: Global,
-    common: &Common<G>,
+    board: &Board,
+    letters: &Letters,
+    workers: u32,
+    gate: &G,
     jobs: Vec<Job<I, K>>,
 ) -> Result<Vec<Done<I, K>>, NoMemory>
-    requires common { IsCommon common.now }
-    requires ready { All (IsReady common.now.board.now) jobs.items }
-    ensures { IfOk result (λ v. AreDone I.Source K.Sink common.now.board.now common.now.letters.now jobs.items v.items) }
+    requires common { IsCommon board.now letters.now workers }
+    requires ready { All (IsReady board.now) jobs.items }
+    ensures { IfOk result (λ v. AreDone I.Source K.Sink board.now letters.now jobs.items v.items) }
 {
     let done = thread::map_vec(
         rt,
         jobs,
         &|job: Job<I, K>| -> Done<I, K>
-            requires { IsCommon common.now × IsReady common.now.board.now job }
-            ensures { IsDone I.Source K.Sink common.entry.now.board.now common.entry.now.letters.now job result }
-        { work(rt, alloc, common, job) },
+            requires { IsCommon board.now letters.now workers × IsReady board.now job }
+            ensures { IsDone I.Source K.Sink board.entry.now letters.entry.now job result }
+        { work(rt, alloc, board, letters, workers, gate, job) },
     )?;
     Ok(done)
 }

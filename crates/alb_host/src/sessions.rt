@@ -10,7 +10,7 @@ ghost use Rattle.alb_host.specs.Steps.{IsPrepared, HasRunSo};
 
 use crate::collect::{Built, Collected, collect};
 use crate::files::Opened;
-use crate::jobs::{Common, Job, work_all};
+use crate::jobs::{Job, work_all};
 use crate::report::SessionReport;
 use crate::start::{line_up, start_all};
 use alb_board::{Board, Pass};
@@ -118,13 +118,7 @@ pub fn run_sessions<
         jobs,
         room,
     } = prepare(alloc, problem, files)?;
-    let common = Common {
-        board: &board,
-        letters: &letters,
-        workers,
-        gate,
-    };
-    let done = work_all(rt, alloc, &common, jobs)?;
+    let done = work_all(rt, alloc, &board, &letters, workers, gate, jobs)?;
     let Collected { built, sessions } = collect(done, room);
     let Some(Built { pass, end }) = built else {
         unreachable!();
