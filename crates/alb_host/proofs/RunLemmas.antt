@@ -79,6 +79,8 @@ module _ {I K : Type 0} (source : sources.Ghosts I) (sink : sinks.Ghosts K) (fil
     created = s.files.sink;
     opening = pass_view s.pass;
     opened = o;
+    from = started.seen;
+    unended = started.unended;
     no_shots = started.shots;
     own = h.own;
     served = h.served;
@@ -107,15 +109,19 @@ module _ {I K : Type 0} (source : sources.Ghosts I) (sink : sinks.Ghosts K) (fil
 
   -- a file was not opened
   pub stops-open : (w : HostWords) (before now : ℕ) (r : HostReport I K) → r.build ≡ None → HasNoRun r → r.status ≡ status.OpenFault → r.refusal ≡ None
-      → FailsToOpen source sink files sound w before now → Runs source sink files sound (Some w) before now r
+      → FailsToOpen source sink files sound w before now r → Runs source sink files sound (Some w) before now r
   stops-open w before now r none empty is refusal h =
-      runs-by w before now r none empty (subst (λ (s : Status). StopsSo source sink files sound w before now s r.refusal r) (sym is) h)
+      runs-by w before now r none empty
+      (subst (λ (s : Status). StopsSo source sink files sound w before now s r.refusal r) (sym is)
+      (subst (λ (o : Option (ℕ × ℕ)). StopsSo source sink files sound w before now status.OpenFault o r) (sym refusal) h))
 
   -- there was no memory
-  pub stops-memory : (w : HostWords) (before now : ℕ) (r : HostReport I K) → r.build ≡ None → HasNoRun r → r.status ≡ status.NoMemory
+  pub stops-memory : (w : HostWords) (before now : ℕ) (r : HostReport I K) → r.build ≡ None → HasNoRun r → r.status ≡ status.NoMemory → r.refusal ≡ None
       → Runs source sink files sound (Some w) before now r
-  stops-memory w before now r none empty is =
-      runs-by w before now r none empty (subst (λ (s : Status). StopsSo source sink files sound w before now s r.refusal r) (sym is) tt)
+  stops-memory w before now r none empty is refusal =
+      runs-by w before now r none empty
+      (subst (λ (s : Status). StopsSo source sink files sound w before now s r.refusal r) (sym is)
+      (subst (λ (o : Option (ℕ × ℕ)). StopsSo source sink files sound w before now status.NoMemory o r) (sym refusal) tt))
 
   -- the problem file gives no problem
   stops-so : (w : HostWords) (before now : ℕ) (why : ProblemStop) (r : HostReport I K) → StopsAt source sink files sound w why r
@@ -176,17 +182,24 @@ module _ {I K : Type 0} (source : sources.Ghosts I) (sink : sinks.Ghosts K) (fil
   -- ---- words
 
   -- there was no memory, whatever the words say
-  pub runs-memory : (o : Option HostWords) (before now : ℕ) (r : HostReport I K) → r.build ≡ None → HasNoRun r → r.problem ≡ None → r.status ≡ status.NoMemory → Runs source sink files sound o before now r
-  runs-memory (Some w) before now r none empty problem is = stops-memory w before now r none empty is
-  runs-memory None before now r none empty problem is = (none, empty, problem, inr is)
+  pub runs-memory : (o : Option HostWords) (before now : ℕ) (r : HostReport I K) → r.build ≡ None → HasNoRun r → r.problem ≡ None → r.refusal ≡ None → r.status ≡ status.NoMemory
+      → Runs source sink files sound o before now r
+  runs-memory (Some w) before now r none empty problem refusal is = stops-memory w before now r none empty is refusal
+  runs-memory None before now r none empty problem refusal is = (none, empty, problem, refusal, inr is)
 
   -- the words say nothing
-  pub runs-usage : (o : Option HostWords) (before now : ℕ) (r : HostReport I K) → o ≡ None → r.build ≡ None → HasNoRun r → r.problem ≡ None → r.status ≡ status.Usage → Runs source sink files sound o before now r
-  runs-usage o before now r nothing none empty problem is = subst (λ (p : Option HostWords). Runs source sink files sound p before now r) (sym nothing) (none, empty, problem, inl is)
+  pub runs-usage : (o : Option HostWords) (before now : ℕ) (r : HostReport I K) → o ≡ None → r.build ≡ None → HasNoRun r → r.problem ≡ None → r.refusal ≡ None → r.status ≡ status.Usage
+      → Runs source sink files sound o before now r
+  runs-usage o before now r nothing none empty problem refusal is =
+      subst (λ (p : Option HostWords). Runs source sink files sound p before now r) (sym nothing) (none, empty, problem, refusal, inl is)
 
   -- where the words say something, the status is another one than that of words that say nothing
+  never-stop : (w : HostWords) (before now : ℕ) (o : Option (ℕ × ℕ)) (r : HostReport I K) → StopsSo source sink files sound w before now status.Usage o r → ⊥
+  never-stop w before now None r h = h
+  never-stop w before now (Some x) r h = h
+
   never-usage-by : (w : HostWords) (before now : ℕ) (o : Option BuildEnd) (r : HostReport I K) → RunsBy source sink files sound w before now o r → r.status ≡ status.Usage → ⊥
-  never-usage-by w before now None r h is = subst (λ (s : Status). StopsSo source sink files sound w before now s r.refusal r) is h.1
+  never-usage-by w before now None r h is = never-stop w before now r.refusal r (subst (λ (s : Status). StopsSo source sink files sound w before now s r.refusal r) is h.1)
   never-usage-by w before now (Some e) r h is = never-after (end_of e) (map session_end r.sessions.items) (sym h.status ∙ is)
 
   pub never-usage : (w : HostWords) (before now : ℕ) (r : HostReport I K) → Runs source sink files sound (Some w) before now r → r.status ≡ status.Usage → ⊥

@@ -93,13 +93,15 @@ module _ {I K : Type 0} (source : sources.Ghosts I) (sink : sinks.Ghosts K) (fil
 
   -- ---- sessions
 
-  -- A SESSION, by a board: its lines are those of the file that its words name, its pass is one of the board and was given no shot
-  -- before, and its answers rest on the shots of this pass
+  -- A SESSION, by a board: its lines are those of the file that its words name, its pass is one of the board, had seen degree 1 and
+  -- no end and was given no shot before, and its answers rest on the shots of this pass
   pub record IsSession (b : Board) (letters : List ℕ) (names : List ℕ × List ℕ) (r : SessionReport I K) : Type 0 where
     pub first : I
     pub created : K
     pub opening : PassView
     pub opened : AreOpened names first created
+    pub from : opening.seen ≡ 1
+    pub unended : opening.end ≡ None
     pub no_shots : opening.shots ≡ []
     pub own : IsPassOf b r.pass
     pub served : Served r.end (rules_view (board_rules b)) letters opening (pass_view r.pass) (2 ^ 40) (source.left first) (source.left r.source) (sink.taken created) (sink.taken r.sink)
@@ -136,18 +138,27 @@ module _ {I K : Type 0} (source : sources.Ghosts I) (sink : sinks.Ghosts K) (fil
     pub problem_is : r.problem ≡ Some file
     pub reads : ReadsFile w.problem (Err why) file
 
-  -- a file was not opened: the desk failed in this run, and is not sound, or a file is not among its files
-  pub record FailsToOpen (w : HostWords) (before now : ℕ) : Type 0 where
+  -- the problem file was opened, and states a problem
+  pub record StatesProblem (w : HostWords) (r : HostReport I K) : Type 0 where
+    pub file : I
+    pub problem : Problem
+    pub problem_is : r.problem ≡ Some file
+    pub reads : ReadsFile w.problem (Ok problem) file
+
+  -- a file was not opened: the desk failed in this run, and is not sound, or a file is not among its files. It is the problem file,
+  -- or one of a session, and the problem file states a problem.
+  pub record FailsToOpen (w : HostWords) (before now : ℕ) (r : HostReport I K) : Type 0 where
     pub rose : Rose before now
     pub missing : sound → IsFile files w.problem → All (λ (n : List ℕ × List ℕ). IsFile files n.0) w.sessions → ⊥
+    pub problem : (r.problem ≡ None) ⊎ StatesProblem w r
 
   -- there was no building, for this reason; `before` and `now` count the faults of the desk
   abbrev pub StopsSo : HostWords → ℕ → ℕ → Status → Option (ℕ × ℕ) → HostReport I K → Type 0
   StopsSo w before now status.Refused (Some (line, code)) r = StopsAt w (stop.Refused line code) r
-  StopsSo w before now status.ReadFault refusal r = StopsAt w stop.ReadFault r
-  StopsSo w before now status.InputLimit refusal r = StopsAt w stop.InputLimit r
-  StopsSo w before now status.OpenFault refusal r = FailsToOpen w before now
-  StopsSo w before now status.NoMemory refusal r = Unit {0}
+  StopsSo w before now status.ReadFault None r = StopsAt w stop.ReadFault r
+  StopsSo w before now status.InputLimit None r = StopsAt w stop.InputLimit r
+  StopsSo w before now status.OpenFault None r = FailsToOpen w before now r
+  StopsSo w before now status.NoMemory None r = Unit {0}
   StopsSo w before now other refusal r = ⊥
 
   abbrev pub RunsBy : HostWords → ℕ → ℕ → Option BuildEnd → HostReport I K → Type 0
@@ -157,4 +168,4 @@ module _ {I K : Type 0} (source : sources.Ghosts I) (sink : sinks.Ghosts K) (fil
   -- WHAT A RUN CAME TO, by its words. Where they say nothing, nothing is opened; memory may run out while they are read
   abbrev pub Runs : Option HostWords → ℕ → ℕ → HostReport I K → Type 0
   Runs (Some w) before now r = RunsBy w before now r.build r
-  Runs None before now r = (r.build ≡ None) × HasNoRun r × (r.problem ≡ None) × ((r.status ≡ status.Usage) ⊎ (r.status ≡ status.NoMemory))
+  Runs None before now r = (r.build ≡ None) × HasNoRun r × (r.problem ≡ None) × (r.refusal ≡ None) × ((r.status ≡ status.Usage) ⊎ (r.status ≡ status.NoMemory))

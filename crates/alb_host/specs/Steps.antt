@@ -61,6 +61,7 @@ module _ {I K : Type 0} where
     pub own : IsPassOf b s.pass
     pub calls : (pass_view s.pass).calls ≡ 0
     pub seen : (pass_view s.pass).seen ≡ 1
+    pub unended : (pass_view s.pass).end ≡ None
     pub shots : (pass_view s.pass).shots ≡ []
     pub reader : IsNewReader s.reader
     pub room : s.reader.room ≡ 2 ^ 40

@@ -1,5 +1,5 @@
 //! What is made before a job runs: the board, the passes, the readers and the jobs.
-ghost use Rattle.std.specs.Prelude.{◌≡◌, ◌+◌, ◌<◌, ◌≤◌, true, [], ◌∷◌, All, IfOk, OnOk, length, map};
+ghost use Rattle.std.specs.Prelude.{◌≡◌, ◌+◌, ◌<◌, ◌≤◌, true, [], ◌∷◌, None, All, IfOk, OnOk, length, map};
 ghost use Rattle.alb_board.specs.Passes.{IsPassOf, pass_view};
 ghost use Rattle.alb_host.specs.Steps.{IsStarted, IsSplitFrom, session_files, builder_job, serve_job};
 
@@ -22,6 +22,7 @@ fn start<I: Drop, K: Drop>(
     requires builder { (pass_view pass.old).builder ≡ true }
     requires room { (pass_view pass.old).passes < 16 }
     requires seen { (pass_view pass.old).seen ≡ 1 }
+    requires unended { (pass_view pass.old).end ≡ None }
     ensures started { IfOk result (IsStarted board.now) }
     ensures files { IfOk result (λ s. s.files ≡ files) }
     ensures own { OnOk result (IsPassOf board.now pass.new) }
@@ -47,6 +48,7 @@ pub fn start_all<I: Drop, K: Drop>(
     requires builder { (pass_view pass.old).builder ≡ true }
     requires alone { (pass_view pass.old).passes ≡ 1 }
     requires seen { (pass_view pass.old).seen ≡ 1 }
+    requires unended { (pass_view pass.old).end ≡ None }
     requires few { length files.items ≤ 8 }
     ensures started { IfOk result (λ v. All (IsStarted board.now) v.items) }
     ensures files { IfOk result (λ v. map session_files v.items ≡ files.items) }

@@ -17,6 +17,7 @@ loop-opened-preserved g c = record {
   own = c.in_ok-started.ensures.own;
   builder = ap (λ (v : PassView). v.builder) c.in_ok-started.ensures.split ∙ c.loop-opened.invariant.builder;
   seen = ap (λ (v : PassView). v.seen) c.in_ok-started.ensures.split ∙ c.loop-opened.invariant.seen;
+  unended = ap (λ (v : PassView). v.end) c.in_ok-started.ensures.split ∙ c.loop-opened.invariant.unended;
   passes = omega (
     arith,
     ap (λ (v : PassView). v.passes) c.in_ok-started.ensures.split,

@@ -1,4 +1,4 @@
-use Rattle.std.proofs.Common.{◌≡◌, ◌+◌, true, length, map, All}
+use Rattle.std.proofs.Common.{◌≡◌, ◌+◌, true, None, length, map, All}
 use Rattle.alb_board.specs.Passes.{IsPassOf, pass_view}
 use Rattle.alb_host.specs.Steps.{IsStarted, IsSplitFrom, session_files}
 use Rattle.alb_host.proofs.start.start_all.Given as goal
@@ -10,6 +10,7 @@ invariant-loop-opened g l = record {
   own : IsPassOf l.board l.pass;
   builder : (pass_view l.pass).builder ≡ true;
   seen : (pass_view l.pass).seen ≡ 1;
+  unended : (pass_view l.pass).end ≡ None;
   passes : (pass_view l.pass).passes ≡ length l.yielded + 1;
   split : IsSplitFrom (pass_view l.fn.pass) (pass_view l.pass);
 }
