@@ -1,0 +1,14 @@
+use Rattle.alb_io.proofs.Writers.{Writes-exit, Writes-more, Writes-then}
+use Rattle.alb_host.proofs.report.write_refused.Goals as goal
+
+pub returns-in_err-write_named : goal.returns-in_err-write_named
+returns-in_err-write_named g c =
+    Writes-exit _ _ c.from_residual.ensures.1 (Writes-more _ (rw c.from.ensures at c.in_err-write_named.ensures))
+
+pub returns-in_err-write_named-2 : goal.returns-in_err-write_named-2
+returns-in_err-write_named-2 g c =
+    Writes-exit _ _ c.from_residual-in_err-write_named-2.ensures.1 (Writes-then (rw c.from.ensures at c.in_ok-write_named.ensures) (Writes-more _ c.in_err-write_named-2.ensures))
+
+pub returns : goal.returns
+returns g c =
+    Writes-then (rw c.from.ensures at c.in_ok-write_named.ensures) (Writes-then c.in_ok-write_named-2.ensures c.put_all.ensures)
