@@ -172,6 +172,9 @@ where
 /// Does all that the program does: the words of the command line, a desk of files, what is called before a block is made, and an
 /// output for the report; the status, and what is left of the run. One problem is read from a file, its tables are built by
 /// workers, and meanwhile sessions answer the lines of files, each into a file of its own, over one board.
+/// The status is Done, unless the words say nothing (Usage), the problem file has a refused line (Refused) or cannot be read
+/// (ReadFault, InputLimit), a file cannot be opened (OpenFault), a session did not come to its end (ReadFault, WriteFault,
+/// InputLimit), memory ran out (NoMemory), or the report cannot be written (ReportFault).
 pub fn run_host<R: Threads + Wait + Sync, D: Desk, G: Gate, K: Sink>(
     rt: &R,
     alloc: Global,
@@ -187,7 +190,7 @@ where
     ensures reports { Reports K.Sink output.old output.new (report_of result.1) result.0 }
     // By the words: the problem file, the building and its sessions; or why there was none.
     ensures runs { Runs D.In.Source D.Out.Sink (D.files desk.old) (D.is_sound desk.old) (host_words (texts_of words.now)) (D.faults desk.old) (D.faults desk.new) result.1 }
-    // The words say nothing, unless memory runs out while they are read.
+    // Usage comes exactly where the words say nothing, unless memory ran out.
     ensures usage { result.1.status ≢ Status.NoMemory → (result.1.status ≡ Status.Usage) ↔ (host_words (texts_of words.now) ≡ None) }
     ensures same_files { D.files desk.new ≡ D.files desk.old }
     ensures later { D.faults desk.old ≤ D.faults desk.new }

@@ -3,8 +3,6 @@
 
 ghost use Rattle.std.specs.Prelude.{◌≡◌, ◌≢◌, ◌↔◌};
 ghost use Rattle.std.specs.IoError.{error_kind};
-ghost use Rattle.std.specs.Prelude.{◌≡◌, ◌≢◌, ◌↔◌};
-ghost use Rattle.std.specs.IoError.{error_kind};
 
 use alb_io::{FileDesk, Status, StdSink, StdSource};
 use alb_top::run_albert;
