@@ -20,6 +20,10 @@ same-error {A} {B} {E} e x h =
     let is : e ≡ x = cc in
     ap (λ (y : E). Err y) is
 
+-- the error is this one
+pub is-err : {A E : Type 0} (e x : E) → e ≡ x → ◌≡◌ {A = Result A E} (Err e) (Err x)
+is-err {A} {E} e x h = ap (λ (y : E). Err y) h
+
 -- the file that is read at a place is among the files that a desk tells later
 pub file-at : (files later : Option Files) (ns : List Names) (i : ℕ) (d : Names) → later ≡ files → i < length ns → All (λ (x : List ℕ × List ℕ). IsFile files x.0) (map names_view ns)
     → IsFile later (get_or ns i d).input.now

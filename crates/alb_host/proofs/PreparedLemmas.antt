@@ -75,7 +75,7 @@ module _ {I K : Type 0} where
 
 -- ---- after
 
-each-length : {A B : Type 0} (R : A → B → Type 0) (xs : List A) (ys : List B) → AreEach R xs ys → length xs ≡ length ys
+pub each-length : {A B : Type 0} (R : A → B → Type 0) (xs : List A) (ys : List B) → AreEach R xs ys → length xs ≡ length ys
 each-length R [] [] h = refl
 each-length R [] (y ∷ ys) h = absurd h
 each-length R (x ∷ xs) [] h = absurd h
@@ -105,12 +105,12 @@ module _ {I K : Type 0} (source : sources.Ghosts I) (sink : sinks.Ghosts K) (q :
 
   -- the builder left its pass and the end
   pub built-there : (o : Option Built) → option_map built_pair o ≡ built_of None dones → o ≡ None → ⊥
-  built-there o is none = let e : None ≡ Some (ran.pass, ran.end) = ap (option_map built_pair) (sym none) ∙ is ∙ pair-is in cc
+  built-there o is none = let e : ◌≡◌ {A = Option (Pass × BuildEnd)} None (Some (ran.pass, ran.end)) = ap (option_map built_pair) (sym none) ∙ is ∙ pair-is in cc
 
   pub has-run-so : (r : Ran I K) → r.board ≡ b → r.sessions.items ≡ sessions_of dones → Some (r.builder, r.end) ≡ built_of None dones → HasRunSo source sink q files r
   has-run-so r board sessions built =
-      let both : Some (r.builder, r.end) ≡ Some (ran.pass, ran.end) = built ∙ pair-is in
-      let same : (r.builder, r.end) ≡ (ran.pass, ran.end) = cc in
+      let both : ◌≡◌ {A = Option (Pass × BuildEnd)} (Some (r.builder, r.end)) (Some (ran.pass, ran.end)) = built ∙ pair-is in
+      let same : ◌≡◌ {A = Pass × BuildEnd} (r.builder, r.end) (ran.pass, ran.end) = cc in
       let pass : r.builder ≡ ran.pass = ap (λ s. s.0) same in
       let end : r.end ≡ ran.end = ap (λ s. s.1) same in
       let fits : HasBuilt (rules_view (board_rules b)) r.end (pass_view r.builder) =

@@ -1,9 +1,10 @@
 -- What a run came to.
 use Rattle.std.proofs.Common.{◌≡◌, ◌≢◌, ℕ, ◌+◌, ◌<◌, ◌≤◌, List, [], ◌∷◌, length, map, All, Option, None, Some, Result, Ok, Err, IsSome, refl, sym, ap, ◌∙◌, subst, inl, inr, arith}
+use Rattle.std.proofs.lemmas.List.{length-map}
 use Rattle.std.proofs.lemmas.List.Elements.{All-head, All-tail}
+use Rattle.alb_board.specs.Passes.{pass_view}
 use Rattle.alb_board.specs.declared.rule.Board.{Board}
 use Rattle.alb_io.specs.Causes.{Rose}
-use Rattle.alb_io.specs.Files.{Files}
 use Rattle.alb_io.specs.declared.sink.Sink as sinks
 use Rattle.alb_io.specs.declared.source.Source as sources
 use Rattle.alb_io.specs.declared.status.Status.{Status}
@@ -11,7 +12,7 @@ use Rattle.alb_io.specs.declared.status.Status.TheVariants as status
 use Rattle.alb_problem_file.specs.declared.stop.ProblemStop.{ProblemStop}
 use Rattle.alb_problem_file.specs.declared.stop.ProblemStop.TheVariants as stop
 use Rattle.alb_table.specs.declared.end.BuildEnd.{BuildEnd}
-use Rattle.alb_io.specs.Files.{HasFile}
+use Rattle.alb_io.specs.Files.{Files, HasFile, IsFile}
 use Rattle.alb_problem.specs.Problem.{IsAccepted}
 use Rattle.alb_problem.specs.declared.problem.Problem.{Problem}
 use Rattle.alb_problem_file.specs.Read.{ReadsProblem}
@@ -23,8 +24,10 @@ use Rattle.alb_host.specs.declared.files.Opened.{Opened}
 use Rattle.alb_host.specs.declared.sessions.Ran.{Ran}
 use Rattle.alb_host.specs.Runs.{status_of_end, status_after, ReadsFile, AreEach, AreOpened, IsSession, FailsToOpen, HasNoRun, HasRun, StopsAt, StopsSo, RunsBy, Runs}
 use Rattle.alb_host.specs.Steps.{HasRunSo, IsReportOf, IsStarted, IsOpenedAs, HasServed, session_files, status_of_stop, refusal_of_stop}
-use Rattle.alb_host.specs.Words.{HostWords}
+use Rattle.alb_host.specs.Words.{HostWords, names_view}
 use Rattle.alb_host.specs.declared.jobs.Start.{Start}
+use Rattle.alb_host.specs.declared.words.Names.{Names}
+use Rattle.alb_host.proofs.PreparedLemmas.{each-length}
 use Rattle.alb_host.specs.declared.report.HostReport.{HostReport}
 use Rattle.alb_host.specs.declared.report.SessionReport.{SessionReport}
 
@@ -52,6 +55,13 @@ never-after e (session.ReadFault ∷ es) h = cc
 never-after e (session.WriteFault ∷ es) h = cc
 never-after e (session.InputLimit ∷ es) h = cc
 
+-- the files that are read are among those that a desk tells later
+pub files-later : (files later : Option Files) (ns ms : List Names) → later ≡ files → ms ≡ ns → All (λ (n : List ℕ × List ℕ). IsFile files n.0) (map names_view ns)
+    → All (λ (n : List ℕ × List ℕ). IsFile later n.0) (map names_view ms)
+files-later files later ns ms same are all =
+    subst (λ (xs : List Names). All (λ (n : List ℕ × List ℕ). IsFile later n.0) (map names_view xs)) (sym are)
+    (subst (λ (fs : Option Files). All (λ (n : List ℕ × List ℕ). IsFile fs n.0) (map names_view ns)) (sym same) all)
+
 -- what a later desk says of opened files, said by the desk before
 module _ {I K : Type 0} (source : sources.Ghosts I) (sink : sinks.Ghosts K) (files later : Option Files) (sound still : Type 0) (same : later ≡ files) (stays : sound → still) where
   opened-one : (n : List ℕ × List ℕ) (o : Opened I K) → IsOpenedAs source sink later still n o → IsOpenedAs source sink files sound n o
@@ -63,11 +73,18 @@ module _ {I K : Type 0} (source : sources.Ghosts I) (sink : sinks.Ghosts K) (fil
     empty = λ told. h.empty (subst (λ (fs : Option Files). IsSome fs) (sym same) told);
   }
 
-  pub opened-before : (names : List (List ℕ × List ℕ)) (os : List (Opened I K)) → AreEach (IsOpenedAs source sink later still) names os → AreEach (IsOpenedAs source sink files sound) names os
+  -- as many were opened as there are pairs of names
+  pub opened-few : (ns ms : List Names) (os : List (Opened I K)) → ms ≡ ns → length ns ≤ 8 → AreEach (IsOpenedAs source sink later still) (map names_view ms) os → length os ≤ 8
+  opened-few ns ms os are few h = omega (arith, few, ap length are, length-map ms names_view, each-length (IsOpenedAs source sink later still) (map names_view ms) os h)
+
+  opened-before : (names : List (List ℕ × List ℕ)) (os : List (Opened I K)) → AreEach (IsOpenedAs source sink later still) names os → AreEach (IsOpenedAs source sink files sound) names os
   opened-before [] [] h = tt
   opened-before [] (o ∷ os) h = absurd h
   opened-before (n ∷ names) [] h = absurd h
   opened-before (n ∷ names) (o ∷ os) h = (opened-one n o h.0, opened-before names os h.1)
+
+  pub opened-at : (ns ms : List Names) (os : List (Opened I K)) → ms ≡ ns → AreEach (IsOpenedAs source sink later still) (map names_view ms) os → AreEach (IsOpenedAs source sink files sound) (map names_view ns) os
+  opened-at ns ms os are h = subst (λ (xs : List Names). AreEach (IsOpenedAs source sink files sound) (map names_view xs) os) are (opened-before (map names_view ms) os h)
 
 module _ {I K : Type 0} (source : sources.Ghosts I) (sink : sinks.Ghosts K) (files : Option Files) (sound : Type 0) where
   -- ---- sessions
