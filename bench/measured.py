@@ -1,4 +1,4 @@
-"""What the benchmarks share: the built program, and runs of it with their time and their peak memory, and monomials."""
+"""What the benchmarks share: the built program, and runs of it with their time and their peak memory, monomials, and derivations."""
 
 import os
 import subprocess
@@ -19,6 +19,10 @@ polynomial (a,b,c)
 table
 quit
 """
+# Of the derivations that plain_lines and sum_lines make: the monomials of their instances, what stands before, and the answers.
+MONOMIALS = ("a", "ab", "b", "bc", "c", "cd", "d", "da")
+HEAD = "generators 3a3b3c3d\nidentity (xy)z-x(yz)\nbuild\nclaim ((ab)c)d-(a(bc))d\nderivation\n"
+ANSWER = "ok\nidentity 1\nready\naccepted zero\n"
 
 
 def program():
@@ -92,6 +96,40 @@ def bracketings(word):
         return [word]
     halves = [(word[:k], word[k:]) for k in range(1, len(word))]
     return [factor(l) + factor(r) for left, right in halves for l in bracketings(left) for r in bracketings(right)]
+
+
+def plain_pair(number):
+    """Returns an instance as this line, and its product with a generator as the next one."""
+    at = number // 2
+    monomials = " ".join(MONOMIALS[(at + k) % len(MONOMIALS)] for k in range(3))
+    side = ("left", "right")[at % 2]
+    yield f"{number} instance 1 {monomials}\n"
+    yield f"{number + 1} times {number} {side} {'abcd'[at // 2 % 4]}\n"
+
+
+def plain_lines(lines):
+    """Returns a derivation of so many lines: an instance, then its product with a generator, and so on."""
+    yield HEAD
+    for number in range(1, lines - 1, 2):
+        yield from plain_pair(number)
+    yield f"{lines - 1} instance 1 a b c\n"
+    yield f"{lines} times {lines - 1} right d\n"
+    yield "end\n"
+
+
+def sum_lines(lines):
+    """Returns a derivation of so many lines: an instance, its product, a sum, a sum with that sum, and so on."""
+    yield HEAD
+    for number in range(1, lines - 3, 4):
+        c = number % 250 + 1
+        yield from plain_pair(number)
+        yield f"{number + 2} sum {c}*{number} -7*{number + 1} {c}*{(number + 4) // 2}\n"
+        yield f"{number + 3} sum 1*{number + 2} -{c}*{(number + 4) // 2}\n"
+    yield f"{lines - 3} instance 1 a b c\n"
+    yield f"{lines - 2} times {lines - 3} right d\n"
+    yield f"{lines - 1} sum 5*{lines - 3} 1*{lines - 2}\n"
+    yield f"{lines} sum 1*{lines - 1} -5*{lines - 3}\n"
+    yield "end\n"
 
 
 def claims_of(path):
