@@ -4,6 +4,7 @@ pub mod Judged
 pub mod Within
 pub mod Fits
 pub mod TallyLemmas
+pub mod NumberedLemmas
 pub mod LineLemmas
 pub mod ListLemmas
 pub mod Appended
@@ -14,3 +15,5 @@ pub mod Limited
 pub mod Counting
 pub mod Dimension
 pub mod Bounded
+pub mod NumberLists
+pub mod ValueLemmas

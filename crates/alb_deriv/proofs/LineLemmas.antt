@@ -16,26 +16,23 @@ use Rattle.alb_mono.specs.Listing.{Each}
 use Rattle.alb_mono.specs.Tree.{Tree, leaf, node, degree, are_below, AreBelow, count, listed, type_le, cmp_monos, tree}
 use Rattle.alb_mono.specs.declared.mono.Mono.{Mono}
 use Rattle.alb_mono.specs.declared.side.Side.{Side}
-use Rattle.alb_mono.specs.declared.side.Side.TheVariants.{Left, Right}
 use Rattle.alb_poly.proofs.Consequence.{alike_poly, poly_alike}
-use Rattle.alb_poly.specs.Poly.{Poly, IsSamePoly, greatest_degree, AreResidues, normal}
+use Rattle.alb_poly.specs.Poly.{Poly, IsSamePoly, AreResidues, normal}
 use Rattle.gf_field.specs.Modular.{IsInTable}
 use Rattle.gf_field.proofs.Table.{IsPrime-from_table}
-use Rattle.alb_poly.specs.Terms.{terms, multiples}
-use Rattle.alb_poly.specs.declared.term.Term.{Term}
-use Rattle.alb_poly.specs.Instance.{IsAtMost, Form, instance}
-use Rattle.alb_poly.proofs.Multilinear.{each-from}
-use Rattle.alb_poly.proofs.Types.{test_from_below}
-use Rattle.alb_poly.proofs.AtMost.{degree-at_most}
+use Rattle.alb_poly.specs.Terms.{multiples}
+use Rattle.alb_poly.specs.Instance.{Form}
 use Rattle.alb_poly.specs.Consequence.{beside, form_at, form}
 use Rattle.alb_poly.specs.declared.rules.Linear.{Linear}
 use Rattle.alb_poly.proofs.Parts.{each_at}
-use Rattle.alb_poly.proofs.NormalLemmas.{normal-each, normal-alike, alike-is-normal, canonical-normal, degree-each, descending-canonical, canonical-descending, canonical-residues}
+use Rattle.alb_poly.proofs.NormalLemmas.{normal-alike, alike-is-normal, canonical-normal, descending-canonical, canonical-descending, canonical-residues}
 use Rattle.alb_poly.proofs.Falling.{descending-beside}
 use Rattle.alb_linear.specs.Identity.{IsLinearized}
-use Rattle.alb_deriv.specs.Derivation.{Times, Sum, LaterLine, OutOfType, fault, line_value, is_no_place, are_within, earlier}
+use Rattle.alb_deriv.specs.Derivation.{Times, Sum, OutOfType, fault, line_value, is_no_place, are_within, earlier}
+use Rattle.alb_nodes.specs.Nodes.{at}
 use Rattle.alb_deriv.specs.Answers.{IsPolyAtMost}
-use Rattle.alb_deriv.proofs.Fits.{passes, passes-normal, pair_type, pair_at_most, instance-fit, all_below, within-degree}
+use Rattle.alb_deriv.specs.Numbered.{read}
+use Rattle.alb_deriv.proofs.Fits.{passes, passes-normal, pair_type, pair_at_most, all_below, within-degree}
 
 -- what a place that was found says
 pub record IsPlace (n i k : ℕ) : Type 0 where
@@ -87,34 +84,25 @@ below-more n k (node a b) l h =
 pub below-26 : (n : ℕ) (ms : List Mono) → n ≤ 26 → All (λ m. IsTrue (are_below n (tree m))) ms → All (λ m. IsTrue (are_below 26 (tree m))) ms
 below-26 n ms l h = λ k d q. below-more n 26 (tree (get_or ms k d)) l (h k d q)
 
--- the instance's polynomial is within the target
-pub value-fit : (p : ℕ) (target : List ℕ) (f : Form) (ms : List Mono) (g : Poly) → IsLinearized p f → length ms ≡ f.degree → All (λ m. IsTrue (are_below (length target) (tree m))) ms →
-    are_within target (map tree ms) ≡ true → g ≡ normal p (instance f (map tree ms)) → IsPolyAtMost target g
-value-fit p target f ms g lin n b w e =
-    subst (IsPolyAtMost target) (sym e) (normal-each _ p (instance f (map tree ms)) (instance-fit target f (map tree ms) lin.multilinear (length-map ms tree ∙ n) (all_below (length target) ms b) w))
-
 -- ---- products
 
-pub passed-none : (target : List ℕ) (s : Side × Tree) (ts : List Term) →
-    ((k : ℕ) (d : Term) → k < length ts → type_le (listed (λ g. count g (tree (get_or ts k d).mono) + count g s.1) 0 (length target)) target ≡ true) →
-    list_any (λ t. passes target t.1) (reindex (beside s) (terms ts)) ≡ false
-passed-none target s [] h = refl
-passed-none target s (t ∷ ts) h =
-    rw (pair_type target s (tree t.mono), h 0 t (omega arith)) (passed-none target s ts (λ k d l. h (suc k) d (omega arith)))
+pub passed-none : (target : List ℕ) (s : Side × Tree) (ts : List Tree) (f : List (ℕ × ℕ)) →
+    ((k : ℕ) → k < length f → type_le (listed (λ g. count g (at ts (get_or f k (0, 0)).1) + count g s.1) 0 (length target)) target ≡ true) →
+    list_any (λ t. passes target t.1) (reindex (beside s) (read ts f)) ≡ false
+passed-none target s ts [] h = refl
+passed-none target s ts (t ∷ f) h =
+    rw (pair_type target s (at ts t.1), h 0 (omega arith)) (passed-none target s ts f (λ k l. h (suc k) (omega arith)))
 
 or_true : (a : Bool) → (a || true) ≡ true
 or_true true = refl
 or_true false = refl
 
-pub passed-some : (target : List ℕ) (s : Side × Tree) (ts : List Term) (k : ℕ) (t : Term) → k < length ts → t ≡ get_or ts k t →
-    type_le (listed (λ g. count g (tree t.mono) + count g s.1) 0 (length target)) target ≡ false →
-    list_any (λ t. passes target t.1) (reindex (beside s) (terms ts)) ≡ true
-passed-some target s [] k t l e h = absurd (omega arith)
-passed-some target s (u ∷ ts) zero t l e h =
-    let q : type_le (listed (λ g. count g (tree u.mono) + count g s.1) 0 (length target)) target ≡ false =
-    subst (λ x. type_le (listed (λ g. count g (tree x.mono) + count g s.1) 0 (length target)) target ≡ false) e h in
-    rw (pair_type target s (tree u.mono), q) refl
-passed-some target s (u ∷ ts) (suc k) t l e h = rw (passed-some target s ts k t (omega arith) e h) (or_true _)
+pub passed-some : (target : List ℕ) (s : Side × Tree) (ts : List Tree) (f : List (ℕ × ℕ)) (k : ℕ) → k < length f →
+    type_le (listed (λ g. count g (at ts (get_or f k (0, 0)).1) + count g s.1) 0 (length target)) target ≡ false →
+    list_any (λ t. passes target t.1) (reindex (beside s) (read ts f)) ≡ true
+passed-some target s ts [] k l h = absurd (omega arith)
+passed-some target s ts (t ∷ f) zero l h = rw (pair_type target s (at ts t.1), h) refl
+passed-some target s ts (t ∷ f) (suc k) l h = rw (passed-some target s ts f k (omega arith) h) (or_true _)
 
 pub residues-reindex : (p : ℕ) (h : Tree → Tree) (f : Poly) → AreResidues p f → AreResidues p (reindex h f)
 residues-reindex p h [] r k d l = absurd (omega arith)
@@ -139,26 +127,15 @@ earlier-value p gs values k at f e q h =
 same_place : (p : ℕ) (gs values : List Poly) → values ≡ map (normal p) gs → length values ≡ length gs
 same_place p gs values e = ap length e ∙ length-map gs (normal p)
 
-none_found : (n k : ℕ) → None ≡ (if is_no_place n k then None else Some (k - 1)) → is_no_place n k ≡ true
-none_found n k h = elim (cases_Bool (is_no_place n k)) [
-  | inl e ↦ e
-  | inr e ↦ absurd (let q : None ≡ Some (k - 1) = h ∙ rw e in cc)
-]
-
 multiples-weigh : (w : Tree → ℕ) (p c : ℕ) (f : Poly) → IsSameMod p (weigh w (multiples p c f)) (weigh w (scale c f))
 multiples-weigh w p c [] = same refl
 multiples-weigh w p c (t ∷ f) = plus (times (of_mod (c * t.0)) (same {a = w t.1} refl)) (multiples-weigh w p c f)
 
 -- multiples with their residues are multiples
-multiples-alike : (p c : ℕ) (f : Poly) → Alike p (multiples p c f) (scale c f)
+pub multiples-alike : (p c : ℕ) (f : Poly) → Alike p (multiples p c f) (scale c f)
 multiples-alike p c f = record { at = λ w. multiples-weigh w p c f }
 
 module _ (p : ℕ) (pos : 0 < p) (target : List ℕ) (fs : List Form) where
-  pub times-later : (gs values : List Poly) (k : ℕ) (s : Side × Tree) → values ≡ map (normal p) gs →
-      None ≡ (if is_no_place (length values) k then None else Some (k - 1)) → fault p target fs gs (Times k s) ≡ Some LaterLine
-  times-later gs values k s e h =
-      let q : is_no_place (length gs) k ≡ true = subst (λ n. is_no_place n k ≡ true) (same_place p gs values e) (none_found (length values) k h) in rw q refl
-
   pub times-judged : (gs values : List Poly) (k at : ℕ) (f : Poly) (s : Side × Tree) → values ≡ map (normal p) gs → IsPlace (length values) k at → f ≡ get_or values at f →
       (fault p target fs gs (Times k s) ≡ (if list_any (λ t. passes target t.1) (reindex (beside s) f) then Some OutOfType else None))
       × (reindex (beside s) f ≡ normal p (line_value fs gs (Times k s)))
@@ -167,11 +144,6 @@ module _ (p : ℕ) (pos : 0 < p) (target : List ℕ) (fs : List Form) where
       let value : reindex (beside s) f ≡ normal p (reindex (beside s) (earlier gs k)) =
       ap (reindex (beside s)) (earlier-value p gs values k at f e q h) ∙ normal-beside p s (earlier gs k) pos in
       (rw (tested, passes-normal p pos target (reindex (beside s) (earlier gs k)), ← value) refl, value)
-
-  pub sum-judged : (gs values : List Poly) (cs : List (ℕ × ℕ)) (later : Bool) → values ≡ map (normal p) gs → later ≡ list_any (λ c. is_no_place (length values) c.1) cs →
-      fault p target fs gs (Sum cs) ≡ (if later then Some LaterLine else None)
-  sum-judged gs values cs later e h =
-      let q : list_any (λ c. is_no_place (length gs) c.1) cs ≡ later = subst (λ n. list_any (λ c. is_no_place n c.1) cs ≡ later) (same_place p gs values e) (sym h) in rw q refl
 
   -- one more multiple
   pub sum-more : (gs : List Poly) (cs : List (ℕ × ℕ)) (i : ℕ) (c : ℕ × ℕ) (now more f : Poly) → i < length cs → c ≡ get_or cs i c → f ≡ normal p (earlier gs c.1) →
@@ -192,40 +164,11 @@ beside-fit target s (t ∷ f) b h k =
     let q : type_le (listed (λ g. count g t.1 + count g s.1) 0 (length target)) target ≡ true = sym (pair_type target s t.1) ∙ not_false _ a.0 in
     (pair_at_most target s t.1 b h.0.below q, beside-fit target s f b h.1 a.1)
 
-degree-beside : (s : Side × Tree) (m : Tree) → degree (beside s m) ≡ degree m + degree s.1
-degree-beside (Left, x) m = omega arith
-degree-beside (Right, x) m = refl
-
--- a product within the target has low degree
-pub beside-low : (target : List ℕ) (s : Side × Tree) (f : Poly) → sum target ≤ 12 → AreBelow (length target) s.1 → degree s.1 ≤ 64 → IsPolyAtMost target f →
-    list_any (λ t. passes target t.1) (reindex (beside s) f) ≡ false → greatest_degree f + degree s.1 ≤ 64
-beside-low target s [] low b small h k = omega arith
-beside-low target s (t ∷ f) low b small h k =
-    let a = beside-fit target s (t ∷ f) b h k in
-    let first : degree (beside s t.1) ≤ sum target = degree-at_most target (beside s t.1) a.0 in
-    let both : degree (beside s t.1) ≡ degree t.1 + degree s.1 = degree-beside s t.1 in
-    let own : greatest_degree (t ∷ f) ≤ 12 = degree-each 12 (t ∷ f) (each-from (λ u. IsAtMost target u.1) (λ u. degree u.1 ≤ 12) (t ∷ f) (λ u q. omega (arith, degree-at_most target u.1 q)) h) in
-    omega arith
-
--- what is within a target of low degree has low degree, and letters that there are
-pub fit-low : (target : List ℕ) (f : Poly) → sum target ≤ 12 → IsPolyAtMost target f → Each (λ t. degree t.1 ≤ 12) f
-fit-low target f low h = each-from (λ t. IsAtMost target t.1) (λ t. degree t.1 ≤ 12) f (λ t q. omega (arith, degree-at_most target t.1 q)) h
-
-pub fit-letters : (target : List ℕ) (f : Poly) → length target ≤ 26 → IsPolyAtMost target f → Each (λ t. IsTrue (are_below 26 t.1)) f
-fit-letters target f long h =
-    each-from (λ t. IsAtMost target t.1) (λ t. IsTrue (are_below 26 t.1)) f (λ t q. below-more (length target) 26 t.1 long (test_from_below (length target) t.1 q.below)) h
-
 pub table-positive : (p : ℕ) → IsInTable p → 0 < p
 table-positive p h = omega (arith, (IsPrime-from_table p h).above_one)
 
-none-at : {X : Type 0} (q : X → Bool) (xs : List X) (k : ℕ) (x : X) → k < length xs → x ≡ get_or xs k x → list_any q xs ≡ false → q x ≡ false
-none-at q [] k x l e h = absurd (omega arith)
-none-at q (y ∷ ys) zero x l e h = subst (λ z. q z ≡ false) (sym e) (or_none (q y) _ h).0
-none-at q (y ∷ ys) (suc k) x l e h = none-at q ys k x (omega arith) e (or_none (q y) _ h).1
-
--- each item of a sum names an earlier line
-pub item-place : (n : ℕ) (cs : List (ℕ × ℕ)) (k : ℕ) (c : ℕ × ℕ) → k < length cs → c ≡ get_or cs k c → list_any (λ d. is_no_place n d.1) cs ≡ false → is_no_place n c.1 ≡ false
-item-place n cs k c l e h = none-at (λ d. is_no_place n d.1) cs k c l e h
+pub table-one : (p : ℕ) → IsInTable p → 1 < p
+table-one p h = omega (arith, (IsPrime-from_table p h).above_one)
 
 pub normal-nil : (p : ℕ) → normal p [] ≡ []
 unfolding normal

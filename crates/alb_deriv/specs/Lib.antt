@@ -4,3 +4,4 @@ pub mod Short
 pub mod Derivation
 pub mod Laws
 pub mod Tally
+pub mod Numbered

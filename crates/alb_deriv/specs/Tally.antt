@@ -1,31 +1,24 @@
--- Sums that are collected by their monomials.
-use Rattle.std.specs.Prelude.{◌≡◌, ℕ, ◌<◌, ◌==◌, not, List, [], ◌∷◌, map, length}
+-- Sums that are collected by the numbers of monomials.
+use Rattle.std.specs.Prelude.{◌≡◌, ℕ, ◌<◌, ◌==◌, not, List, [], ◌∷◌, length}
 use Rattle.std.specs.List.{filter}
 use Rattle.alb_mono.specs.Listing.{Each}
-use Rattle.alb_mono.specs.Tree.{Tree, tree}
-use Rattle.alb_keys.specs.declared.lent.LentMono.{LentMono}
-use Rattle.alb_poly.specs.Poly.{Poly}
 use Rattle.alb_deriv.specs.declared.tally.Tally.{Tally}
 
--- coefficients beside their monomials
-abbrev pub paired : List ℕ → List Tree → Poly
-paired [] ms = []
+-- coefficients beside their numbers
+abbrev pub paired : List ℕ → List ℕ → List (ℕ × ℕ)
+paired [] ks = []
 paired (c ∷ cs) [] = []
-paired (c ∷ cs) (m ∷ ms) = (c, m) ∷ paired cs ms
+paired (c ∷ cs) (k ∷ ks) = (c, k) ∷ paired cs ks
 
--- the monomials that were lent
-abbrev pub lent : List LentMono → List Tree
-lent ks = map (λ (k : LentMono). tree k.mono.now) ks
+-- the terms of a tally
+abbrev pub tallied : Tally → List (ℕ × ℕ)
+tallied t = paired t.coefs.items t.numbers.keys
 
--- the polynomial of a tally
-abbrev pub tallied : Tally → Poly
-tallied t = paired t.coefs.items (lent t.monos.keys)
-
--- a residue for each monomial
+-- a residue for each number
 pub record IsTally (p : ℕ) (t : Tally) : Type 0 where
-  pub long : length t.coefs.items ≡ length t.monos.keys
+  pub long : length t.coefs.items ≡ length t.numbers.keys
   pub residues : Each (λ c. c < p) t.coefs.items
 
 -- the terms with a coefficient that is not 0
-abbrev pub nonzero : Poly → Poly
+abbrev pub nonzero : List (ℕ × ℕ) → List (ℕ × ℕ)
 nonzero f = filter (λ t. not (t.0 == 0)) f

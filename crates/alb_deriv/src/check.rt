@@ -6,8 +6,11 @@ ghost use Rattle.alb_deriv.specs.Derivation.{same_terms, first_fault, claim_faul
 ghost use Rattle.alb_deriv.specs.Views.{line, IsLine};
 ghost use Rattle.alb_deriv.specs.Answers.{AreDerivationRules, DerivationAnswers, ClaimAnswers};
 
+use crate::numbered::{Numbered, poly_of};
 use crate::values::value_of;
 use crate::{DerivError, Line};
+use alb_mono::NoMemory;
+use alb_nodes::Numbers;
 use alb_poly::{Poly, Rules, Term};
 use std::alloc::Global;
 
@@ -20,9 +23,10 @@ pub fn check_lines(alloc: Global, rules: &Rules, lines: &[Line]) -> Result<Poly,
         (normal rules.now.field (last_value (forms rules.now) (map line lines.now))) }
     ensures residues { IfOk result (λ g. AreResidues rules.now.field g) }
 {
-    let mut values: Vec<Poly> = Vec::new(alloc);
+    let mut numbers = Numbers::new(alloc);
+    let mut values: Vec<Numbered> = Vec::new(alloc);
     for (k, entry) in lines.iter().enumerate() {
-        match value_of(alloc, rules, &values, entry) {
+        match value_of(alloc, rules, &mut numbers, &values, entry) {
             Ok(value) => {
                 if values.push(value).is_err() {
                     return Err(DerivError::NoMemory);
@@ -31,9 +35,12 @@ pub fn check_lines(alloc: Global, rules: &Rules, lines: &[Line]) -> Result<Poly,
             Err(fault) => return Err(fault.at(k as u64 + 1)),
         }
     }
-    match values.pop() {
-        Some(value) => Ok(value),
-        None => Ok(Poly::zero(alloc)),
+    let Some(value) = values.pop() else {
+        return Ok(Poly::zero(alloc));
+    };
+    match poly_of(alloc, &rules.field, &numbers, &value) {
+        Ok(last) => Ok(last),
+        Err(NoMemory) => Err(DerivError::NoMemory),
     }
 }
 

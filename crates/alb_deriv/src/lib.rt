@@ -5,6 +5,7 @@ mod check;
 mod error;
 pub mod laws;
 mod line;
+mod numbered;
 mod tally;
 mod types;
 mod values;

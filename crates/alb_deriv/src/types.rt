@@ -1,9 +1,11 @@
 ghost use Rattle.std.specs.Prelude.{◌≡◌, ◌+◌, ◌*◌, ◌<◌, ◌≤◌, ◌^◌, All, length, map};
 ghost use Rattle.gf_sums.specs.Sums.{total};
 ghost use Rattle.alb_mono.specs.Tree.{tree, degree, count, type_le, listed};
+ghost use Rattle.alb_nodes.specs.Nodes.{at};
 ghost use Rattle.alb_deriv.specs.Derivation.{are_within};
 
 use alb_mono::{Mono, Multi};
+use alb_nodes::Numbers;
 
 /// How often a generator occurs in a monomial.
 fn occurrences(m: &Mono, g: u8) -> u64
@@ -47,15 +49,17 @@ pub fn are_within(target: &Multi, ms: &[Mono]) -> bool
 }
 
 /// Whether the types of two monomials together are at most the target.
-pub fn is_pair_within(target: &Multi, a: &Mono, b: &Mono) -> bool
-    requires left { degree (tree a.now) ≤ 64 }
-    requires right { degree (tree b.now) ≤ 64 }
+pub fn is_pair_within(target: &Multi, numbers: &Numbers, a: usize, b: usize) -> bool
+    requires within { (a < length numbers.now) × (b < length numbers.now) }
+    requires left { degree (at numbers.now a) ≤ 64 }
+    requires right { degree (at numbers.now b) ≤ 64 }
     requires generators { length target.now ≤ 26 }
-    ensures { result ≡ type_le (listed (λ g. count g (tree a.now) + count g (tree b.now)) 0 (length target.now)) target.now }
+    ensures { result ≡ type_le (listed (λ g. count g (at numbers.now a) + count g (at numbers.now b)) 0 (length target.now)) target.now }
 {
     let counts = target.counts();
     for g in 0..counts.len() {
-        if u64::from(counts[g]) < occurrences(a, g as u8) + occurrences(b, g as u8) {
+        let letter = g as u8;
+        if u64::from(counts[g]) < numbers.occurrences(a, letter) + numbers.occurrences(b, letter) {
             return false;
         }
     }

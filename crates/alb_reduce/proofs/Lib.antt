@@ -7,3 +7,4 @@ pub mod LaneLemmas
 pub mod SpreadLemmas
 pub mod PivotLemmas
 pub mod KeepLemmas
+pub mod DropLemmas

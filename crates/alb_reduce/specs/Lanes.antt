@@ -1,5 +1,5 @@
 -- Rows kept as residues in lanes, one lane for each column of a list.
-use Rattle.std.specs.Prelude.{ℕ, ◌≡◌, ◌≢◌, ◌<◌, ◌≤◌, ◌+◌, ◌*◌, ◌%◌, ◌==◌, if◌then◌else◌, List, [], ◌∷◌, length, slice_index, slice_index_or}
+use Rattle.std.specs.Prelude.{ℕ, ◌≡◌, ◌≢◌, ◌<◌, ◌≤◌, ◌+◌, ◌*◌, ◌%◌, ◌==◌, if◌then◌else◌, List, [], ◌∷◌, length, map, slice_index, slice_index_or}
 use Rattle.alb_rows.specs.Row.{Cells}
 use Rattle.alb_rows.specs.Span.{Ascending}
 use Rattle.alb_reduce.specs.Index.{IsIndex, PutsAt}
@@ -81,3 +81,25 @@ pub record PutsLane (p : ℕ) (live : List ℕ) (column x : ℕ) (old new : List
   pub within : lane < length live
   pub at : slice_index live lane ≡ column
   pub puts : PutsAt old new lane ((slice_index old lane + x) % p)
+
+-- ---- lanes of pivots are dropped
+
+-- what stands at these places
+abbrev pub gather : List ℕ → List ℕ → List ℕ
+gather places xs = map (λ i. slice_index xs i) places
+
+-- the column is no pivot
+abbrev pub IsFree : List ℕ → ℕ → Type 0
+IsFree pivots c = (k : ℕ) → k < length pivots → slice_index pivots k ≢ c
+
+-- lanes below n in ascending order, among them each whose column is no pivot
+pub record AreFreeLanes (live pivots : List ℕ) (n : ℕ) (lanes : List ℕ) : Type 0 where
+  pub ascending : Ascending lanes
+  pub below : (k : ℕ) → k < length lanes → slice_index lanes k < n
+  pub all : (i : ℕ) → i < n → IsFree pivots (slice_index live i) → (k : ℕ) × (k < length lanes) × (slice_index lanes k ≡ i)
+
+-- of the first n rows these lanes are left, and the others are as they were
+pub record AreGathered (places : List ℕ) (old new : List (List ℕ)) (n : ℕ) : Type 0 where
+  pub long : length new ≡ length old
+  pub gathered : (l : ℕ) → l < n → slice_index_or new l [] ≡ gather places (slice_index_or old l [])
+  pub rest : (l : ℕ) → n ≤ l → slice_index_or new l [] ≡ slice_index_or old l []

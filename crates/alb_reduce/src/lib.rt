@@ -5,6 +5,7 @@
 //! greatest, so the lead of a row is its least column.
 #![tactic(auto)]
 
+mod drops;
 mod echelon;
 mod kept;
 mod lanes;

@@ -5,6 +5,7 @@ ghost use Rattle.alb_rows.specs.Row.{Cells, ColumnsBelow, IsRowOver};
 ghost use Rattle.alb_reduce.specs.Lanes.{lane_cells, lane_rows, AreLanesCleared, AreResidues, AreZero, Covers, HasLane, IsFirstLane, IsLaneCleared, PutsLane};
 ghost use Rattle.alb_reduce.specs.Echelon.{kept_rows, Agrees, AllAgree, HasSameRows, IsHeld, IsReady, IsSpread, Keeps, KeepsPivot, RecipesFollow};
 
+use crate::drops::drop_lanes;
 use crate::echelon::Offered;
 use crate::kept::Kept;
 use crate::lanes::{add_multiple, first_columns, first_lane, multiply, zeros};
@@ -278,6 +279,27 @@ fn open_lanes(columns: u32, kept: &mut Kept, scratch: &mut Vec<Residue>) -> Resu
     Ok(())
 }
 
+// Whether a quarter of the lanes are those of pivots.
+fn is_wide(columns: u32, kept: &Kept) -> bool {
+    let lanes = kept.live.len();
+    let free = (columns as usize).saturating_sub(kept.pivots.len());
+    free < lanes && free <= lanes - lanes / 4
+}
+
+// Gives each column a lane, unless that was done before, and drops those of pivots where they are many.
+fn fit_lanes(columns: u32, kept: &mut Kept, scratch: &mut Vec<Residue>) -> Result<(), NoMemory>
+    requires { (p : ℕ) × IsReady p columns kept.old scratch.old.items }
+    ensures ready { OnOk result ((p : ℕ) → IsReady p columns kept.old scratch.old.items → IsReady p columns kept.new scratch.new.items) }
+    ensures covers { OnOk result ((p : ℕ) → IsReady p columns kept.old scratch.old.items → Covers columns kept.new.live.items kept.new.pivots.items) }
+    ensures same { OnOk result ((p : ℕ) → IsReady p columns kept.old scratch.old.items → HasSameRows kept.old kept.new) }
+{
+    open_lanes(columns, kept, scratch)?;
+    if is_wide(columns, kept) {
+        drop_lanes(kept, scratch)?;
+    }
+    Ok(())
+}
+
 // Keeps a row with its recipe, cleared, unless it is zero then.
 pub(crate) fn keep(
     field: &Field,
@@ -294,7 +316,7 @@ pub(crate) fn keep(
     ensures keeps { IfOk result (Keeps field.now kept.old kept.new row.now recipe) }
     ensures ready { OnOk result (IsReady field.now columns kept.new scratch.new.items) }
 {
-    open_lanes(columns, kept, scratch)?;
+    fit_lanes(columns, kept, scratch)?;
     let offered = keep_row(field, columns, kept, row, scratch, recipe)?;
     Ok(offered)
 }

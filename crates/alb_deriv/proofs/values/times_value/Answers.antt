@@ -1,43 +1,45 @@
-use Rattle.std.proofs.Common.{◌∙◌, length, sym, subst, refl}
+use Rattle.std.proofs.Common.{◌≡◌, ℕ, List, get_or, length, sym, subst}
 use Rattle.alb_mono.specs.Tree.{tree}
 use Rattle.alb_mono.proofs.Leaves.{below_from_test}
-use Rattle.alb_poly.specs.Consequence.{beside, forms}
-use Rattle.alb_poly.specs.Poly.{AreResidues}
-use Rattle.alb_deriv.specs.Answers.{IsPolyAtMost}
-use Rattle.alb_deriv.proofs.LineLemmas.{place-found, table-positive, times-judged, beside-fit, beside-low, below-more, residues-reindex}
+use Rattle.alb_poly.specs.Consequence.{forms}
+use Rattle.alb_deriv.specs.Numbered.{IsNumbered}
+use Rattle.alb_deriv.proofs.LineLemmas.{place-found, table-positive}
+use Rattle.alb_deriv.proofs.ValueLemmas.{numbered-small, beside-value, beside-numbered}
 use Rattle.alb_deriv.proofs.values.times_value.Goals as goal
 
-pub returns-then-is_passed-clause-value : goal.returns-then-is_passed-clause-value
-returns-then-is_passed-clause-value c = λ gs e.
-    let q = place-found (length c.args.values.now) c.args.k c.in-Some.at c.in-Some.ensures in
-    let j = times-judged c.args.rules.now.field (table-positive _ c.requires.rules.prime) c.args.rules.now.target (forms c.args.rules.now) gs c.args.values.now c.args.k c.in-Some.at c.index-values-at.result (c.args.side, tree c.args.m.now) e q c.index-values-at.is in
-    j.0 ∙ rw (sym (c.if-is_passed.ensures c.args.side)) refl
+pub beside_value-requires-clause-small : goal.beside_value-requires-clause-small
+beside_value-requires-clause-small c =
+    let p = c.args.rules.now.field in
+    let target = c.args.rules.now.target in
+    let values = c.args.values.now in
+    let i = c.in-Some.at in
+    let f : List (ℕ × ℕ) = c.terms.result.now in
+    let q = place-found (length values) c.args.k i c.in-Some.ensures in
+    let own : f ≡ get_or values i f = subst (λ (x : List (ℕ × ℕ)). x ≡ get_or values i x) (sym c.terms.ensures) c.index-values-at.is in
+    numbered-small p target c.args.numbers.now f c.requires.rules.low (subst (IsNumbered p target c.args.numbers.now) (sym own) (c.requires.numbered i f q.below))
 
-pub mul_mono-requires-clause-small : goal.mul_mono-requires-clause-small
-mul_mono-requires-clause-small c =
-    let q = place-found (length c.args.values.now) c.args.k c.in-Some.at c.in-Some.ensures in
-    let fit = subst (IsPolyAtMost c.args.rules.now.target) (sym c.index-values-at.is) (c.requires.fit c.in-Some.at c.index-values-at.result q.below) in
-    beside-low c.args.rules.now.target (c.args.side, tree c.args.m.now) c.index-values-at.result c.requires.rules.low (below_from_test _ (tree c.args.m.now) c.requires.known) c.requires.small fit
-    (sym (c.if-is_passed.ensures c.args.side))
+pub returns-clause-value : goal.returns-clause-value
+returns-clause-value c = λ gs e.
+    let p = c.args.rules.now.field in
+    let target = c.args.rules.now.target in
+    let values = c.args.values.now in
+    let i = c.in-Some.at in
+    let f : List (ℕ × ℕ) = c.terms.result.now in
+    let q = place-found (length values) c.args.k i c.in-Some.ensures in
+    let own : f ≡ get_or values i f = subst (λ (x : List (ℕ × ℕ)). x ≡ get_or values i x) (sym c.terms.ensures) c.index-values-at.is in
+    let n = subst (IsNumbered p target c.args.numbers.now) (sym own) (c.requires.numbered i f q.below) in
+    beside-value p (table-positive p c.requires.rules.prime) target (forms c.args.rules.now) c.args.numbers.now c.beside_value.new.numbers gs values c.args.k i f
+    (c.args.side, tree c.args.m.now) c.beside_value.result e q own n c.beside_value.ensures.value
 
-pub mul_mono-requires-clause-known : goal.mul_mono-requires-clause-known
-mul_mono-requires-clause-known c = below-more _ 26 (tree c.args.m.now) c.requires.rules.long c.requires.known
-
-pub returns-in-Ok-clause-value : goal.returns-in-Ok-clause-value
-returns-in-Ok-clause-value c = λ gs e.
-    let q = place-found (length c.args.values.now) c.args.k c.in-Some.at c.in-Some.ensures in
-    let j = times-judged c.args.rules.now.field (table-positive _ c.requires.rules.prime) c.args.rules.now.target (forms c.args.rules.now) gs c.args.values.now c.args.k c.in-Some.at c.index-values-at.result (c.args.side, tree c.args.m.now) e q c.index-values-at.is in
-    (j.0 ∙ rw (sym (c.if-is_passed.ensures c.args.side)) refl, c.in-Ok.ensures ∙ j.1)
-
-pub returns-in-Ok-clause-fit : goal.returns-in-Ok-clause-fit
-returns-in-Ok-clause-fit c =
-    let q = place-found (length c.args.values.now) c.args.k c.in-Some.at c.in-Some.ensures in
-    let fit = subst (IsPolyAtMost c.args.rules.now.target) (sym c.index-values-at.is) (c.requires.fit c.in-Some.at c.index-values-at.result q.below) in
-    subst (IsPolyAtMost c.args.rules.now.target) (sym c.in-Ok.ensures)
-    (beside-fit c.args.rules.now.target (c.args.side, tree c.args.m.now) c.index-values-at.result (below_from_test _ (tree c.args.m.now) c.requires.known) fit (sym (c.if-is_passed.ensures c.args.side)))
-
-pub returns-in-Ok-clause-residues : goal.returns-in-Ok-clause-residues
-returns-in-Ok-clause-residues c =
-    let q = place-found (length c.args.values.now) c.args.k c.in-Some.at c.in-Some.ensures in
-    let r = subst (AreResidues c.args.rules.now.field) (sym c.index-values-at.is) (c.requires.residues c.in-Some.at c.index-values-at.result q.below) in
-    subst (AreResidues c.args.rules.now.field) (sym c.in-Ok.ensures) (residues-reindex _ (beside (c.args.side, tree c.args.m.now)) c.index-values-at.result r)
+pub returns-clause-numbered : goal.returns-clause-numbered
+returns-clause-numbered c =
+    let p = c.args.rules.now.field in
+    let target = c.args.rules.now.target in
+    let values = c.args.values.now in
+    let i = c.in-Some.at in
+    let f : List (ℕ × ℕ) = c.terms.result.now in
+    let q = place-found (length values) c.args.k i c.in-Some.ensures in
+    let own : f ≡ get_or values i f = subst (λ (x : List (ℕ × ℕ)). x ≡ get_or values i x) (sym c.terms.ensures) c.index-values-at.is in
+    let n = subst (IsNumbered p target c.args.numbers.now) (sym own) (c.requires.numbered i f q.below) in
+    beside-numbered p target c.args.numbers.now c.beside_value.new.numbers f (c.args.side, tree c.args.m.now) c.beside_value.result
+    (below_from_test (length target) (tree c.args.m.now) c.requires.known) n c.beside_value.ensures.value

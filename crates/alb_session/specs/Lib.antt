@@ -1,0 +1,4 @@
+pub mod Session
+pub mod Served
+pub mod View
+pub mod Turns
