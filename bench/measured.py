@@ -23,6 +23,21 @@ quit
 MONOMIALS = ("a", "ab", "b", "bc", "c", "cd", "d", "da")
 HEAD = "generators 3a3b3c3d\nidentity (xy)z-x(yz)\nbuild\nclaim ((ab)c)d-(a(bc))d\nderivation\n"
 ANSWER = "ok\nidentity 1\nready\naccepted zero\n"
+# A small script that runs a program and tells its time, its peak and how it ended: the peak of a process is never below that of
+# the one that it was forked from, and a script that holds what it measures can be large.
+LAUNCHER = """
+import os, sys, time
+begun = time.monotonic()
+child = os.fork()
+if child == 0:
+    try:
+        os.execv(sys.argv[2], sys.argv[2:])
+    finally:
+        os._exit(127)
+_, ended, used = os.wait4(child, 0)
+clock = time.monotonic() - begun
+os.write(int(sys.argv[1]), f"{used.ru_utime + used.ru_stime} {clock} {used.ru_maxrss} {ended}".encode())
+"""
 
 
 def program():
@@ -33,31 +48,33 @@ def program():
     return path
 
 
+def clocked(path, script, words):
+    """Runs a program on the file SCRIPT. Returns what `run` does, with the seconds on the clock behind the first ones."""
+    reader, writer = os.pipe()
+    with open(script, "rb") as given, tempfile.TemporaryFile() as written, os.fdopen(reader) as told:
+        command = [sys.executable, "-I", "-S", "-c", LAUNCHER, str(writer), path, *words]
+        subprocess.run(command, stdin=given, stdout=written, pass_fds=[writer], check=True)
+        os.close(writer)
+        seconds, clock, peak, ended = told.read().split()
+        written.seek(0)
+        text = written.read().decode()
+    status = int(ended)
+    return float(seconds), float(clock), int(peak) / 1024, os.WEXITSTATUS(status) if os.WIFEXITED(status) else -os.WTERMSIG(status), text
+
+
 def run(path, script, words=("check",)):
     """Runs a program, the check where no other words are given, on the file SCRIPT.
 
     Returns the seconds, the peak memory in MB, the status and the output.
 
     The seconds are the processor time of the process, which other work on the machine changes less than the time that
-    passes. The process is one thread that never waits, so alone on a machine the two are alike.
+    passes. A process with one thread that never waits takes as long on the clock, alone on a machine.
 
     The peak is that of the process itself (the highest resident size that the system counted). It is never below what
-    this small script itself takes, some 10 to 20 MB.
+    LAUNCHER itself takes, some 5 to 10 MB.
     """
-    with open(script, "rb") as given, tempfile.TemporaryFile() as written:
-        child = os.fork()
-        if child == 0:
-            try:
-                os.dup2(given.fileno(), 0)
-                os.dup2(written.fileno(), 1)
-                os.execv(path, [path, *words])
-            finally:
-                os._exit(127)
-        _, ended, used = os.wait4(child, 0)
-        written.seek(0)
-        text = written.read().decode()
-    status = os.WEXITSTATUS(ended) if os.WIFEXITED(ended) else -os.WTERMSIG(ended)
-    return used.ru_utime + used.ru_stime, used.ru_maxrss / 1024, status, text
+    seconds, _, *rest = clocked(path, script, words)
+    return (seconds, *rest)
 
 
 def best(path, script, times):
