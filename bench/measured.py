@@ -102,6 +102,14 @@ def seconds_of(path, room, name, text, times, wanted_status, wanted_text):
     return seconds, peak
 
 
+def plain_in(room, name):
+    """Builds a plain program of bench/yardstick and returns its path. Needs rustc."""
+    source = os.path.join(TOP, "bench", "yardstick", name + ".rs")
+    made = os.path.join(room, name)
+    subprocess.run(["rustc", "--edition", "2021", "-O", "-A", "dead_code", "-o", made, source], check=True)
+    return made
+
+
 def factor(text):
     """Returns a monomial as a factor: in brackets, where it is a product."""
     return text if len(text) == 1 else f"({text})"
