@@ -2,7 +2,7 @@
 use Rattle.std.proofs.Common.{◌≡◌, ℕ, suc, ◌+◌, ◌-◌, ◌<◌, ◌≤◌, List, [], ◌∷◌, ◌++◌, length, sum, refl, sym, ap, ◌∙◌, subst, inl, inr, arith}
 use Rattle.std.specs.Prelude.{Some, None, nat_lt, if◌then◌else◌}
 use Rattle.std.specs.List.{flat_map}
-use Rattle.std.proofs.lemmas.Bool.{cases_Bool, cases_order}
+use Rattle.std.proofs.lemmas.Bool.{cases_Bool, cases_order, cases_lt}
 use Rattle.std.proofs.lemmas.Bool.Decides.{nat_tests}
 use Rattle.gf_sums.specs.Sums.{total}
 use Rattle.gf_sums.proofs.Totals.{total-append, total-map}
@@ -18,7 +18,7 @@ use Rattle.alb_table.specs.Table.{next_types, wide, next_products, most_of_type,
 use Rattle.alb_table.specs.Right.{AreHigh, IsRight}
 use Rattle.alb_table.specs.RightTable.{IsRightTable, basis_monos, mono_entry}
 use Rattle.alb_table.proofs.RangeLemmas.{ats}
-use Rattle.alb_unique.specs.Laws.{EndIsUnique}
+use Rattle.alb_unique.specs.Laws.{EndIsUnique, EndIsLast}
 use Rattle.alb_unique.proofs.SameShapes.{coefficients-same, HasFront}
 use Rattle.alb_unique.proofs.SameTables.{IsNextType, lower, same-products, type-next, have-same-entries}
 
@@ -251,8 +251,14 @@ module _ (fs : List Form) (multi : AreMultilinear fs) (high : AreHigh fs) where
     end-one (TooManyCoefficients m) NoMemory h k = absurd k
     end-one NoMemory f h k = absurd h
 
--- THE LAW
+-- THE LAWS
 pub end-unique : EndIsUnique
 end-unique fs t u e f r h k =
     let d = degree-unique fs r.multilinear r.high t u r.table r.other_table r.field r.goal r.right r.other_right e f h k in
     (d, end-one fs r.multilinear r.high t u r.table r.other_table r.field r.goal d r.right r.other_right e f h k)
+
+pub end-last : EndIsLast
+end-last fs t u e r h = elim (cases_lt t.degree u.degree) [
+  | inl l ↦ absurd (no-later fs r.multilinear r.high t u r.table r.other_table r.field r.goal l r.right r.other_right e h)
+  | inr l ↦ l
+]

@@ -1,5 +1,5 @@
 -- Laws that functions of `laws` state.
-use Rattle.std.specs.Prelude.{◌≡◌, ◌<◌, ℕ, List}
+use Rattle.std.specs.Prelude.{◌≡◌, ◌<◌, ◌≤◌, ℕ, List}
 use Rattle.alb_poly.specs.Poly.{Poly}
 use Rattle.alb_poly.specs.Instance.{Form}
 use Rattle.alb_poly.specs.Consequence.{AreMultilinear}
@@ -24,6 +24,10 @@ pub record AreRightFor (fs : List Form) (t u : Table) : Type 0 where
 -- the building of the tables ends at one degree, and in one way
 abbrev pub EndIsUnique : Type 0
 EndIsUnique = (fs : List Form) (t u : Table) (e f : End) → AreRightFor fs t u → IsEnd fs t e → IsEnd fs u f → (t.degree ≡ u.degree) × (e ≡ f)
+
+-- beyond the degree at which the building ends there is no right table
+abbrev pub EndIsLast : Type 0
+EndIsLast = (fs : List Form) (t u : Table) (e : End) → AreRightFor fs t u → IsEnd fs t e → u.degree ≤ t.degree
 
 -- a question about a polynomial has one answer
 abbrev pub AnswerIsUnique : Type 0

@@ -1,4 +1,4 @@
-//! Tests of the crates of the algebra: linearized identities, problems, derivations, rows and their elimination, kernels over slices.
+//! Tests of the crates of the algebra: linearized identities, problems, monomials by numbers, derivations, rows and their elimination, kernels over slices.
 #![tactic(auto)]
 
 #[cfg(test)]
@@ -9,6 +9,8 @@ mod elimination;
 mod identities;
 #[cfg(test)]
 mod lanes;
+#[cfg(test)]
+mod numbers;
 #[cfg(test)]
 mod problems;
 #[cfg(test)]
