@@ -1,4 +1,4 @@
-"""What the benchmarks share: the built program, and runs of it with their time and their peak memory, and monomials."""
+"""What the benchmarks share: the built program, and runs of it with their time and their peak memory, monomials, and derivations."""
 
 import os
 import subprocess
@@ -19,6 +19,25 @@ polynomial (a,b,c)
 table
 quit
 """
+# Of the derivations that plain_lines and sum_lines make: the monomials of their instances, what stands before, and the answers.
+MONOMIALS = ("a", "ab", "b", "bc", "c", "cd", "d", "da")
+HEAD = "generators 3a3b3c3d\nidentity (xy)z-x(yz)\nbuild\nclaim ((ab)c)d-(a(bc))d\nderivation\n"
+ANSWER = "ok\nidentity 1\nready\naccepted zero\n"
+# A small script that runs a program and tells its time, its peak and how it ended: the peak of a process is never below that of
+# the one that it was forked from, and a script that holds what it measures can be large.
+LAUNCHER = """
+import os, sys, time
+begun = time.monotonic()
+child = os.fork()
+if child == 0:
+    try:
+        os.execv(sys.argv[2], sys.argv[2:])
+    finally:
+        os._exit(127)
+_, ended, used = os.wait4(child, 0)
+clock = time.monotonic() - begun
+os.write(int(sys.argv[1]), f"{used.ru_utime + used.ru_stime} {clock} {used.ru_maxrss} {ended}".encode())
+"""
 
 
 def program():
@@ -29,31 +48,33 @@ def program():
     return path
 
 
+def clocked(path, script, words):
+    """Runs a program on the file SCRIPT. Returns what `run` does, with the seconds on the clock behind the first ones."""
+    reader, writer = os.pipe()
+    with open(script, "rb") as given, tempfile.TemporaryFile() as written, os.fdopen(reader) as told:
+        command = [sys.executable, "-I", "-S", "-c", LAUNCHER, str(writer), path, *words]
+        subprocess.run(command, stdin=given, stdout=written, pass_fds=[writer], check=True)
+        os.close(writer)
+        seconds, clock, peak, ended = told.read().split()
+        written.seek(0)
+        text = written.read().decode()
+    status = int(ended)
+    return float(seconds), float(clock), int(peak) / 1024, os.WEXITSTATUS(status) if os.WIFEXITED(status) else -os.WTERMSIG(status), text
+
+
 def run(path, script, words=("check",)):
     """Runs a program, the check where no other words are given, on the file SCRIPT.
 
     Returns the seconds, the peak memory in MB, the status and the output.
 
     The seconds are the processor time of the process, which other work on the machine changes less than the time that
-    passes. The process is one thread that never waits, so alone on a machine the two are alike.
+    passes. A process with one thread that never waits takes as long on the clock, alone on a machine.
 
     The peak is that of the process itself (the highest resident size that the system counted). It is never below what
-    this small script itself takes, some 10 to 20 MB.
+    LAUNCHER itself takes, some 5 to 10 MB.
     """
-    with open(script, "rb") as given, tempfile.TemporaryFile() as written:
-        child = os.fork()
-        if child == 0:
-            try:
-                os.dup2(given.fileno(), 0)
-                os.dup2(written.fileno(), 1)
-                os.execv(path, [path, *words])
-            finally:
-                os._exit(127)
-        _, ended, used = os.wait4(child, 0)
-        written.seek(0)
-        text = written.read().decode()
-    status = os.WEXITSTATUS(ended) if os.WIFEXITED(ended) else -os.WTERMSIG(ended)
-    return used.ru_utime + used.ru_stime, used.ru_maxrss / 1024, status, text
+    seconds, _, *rest = clocked(path, script, words)
+    return (seconds, *rest)
 
 
 def best(path, script, times):
@@ -81,6 +102,14 @@ def seconds_of(path, room, name, text, times, wanted_status, wanted_text):
     return seconds, peak
 
 
+def plain_in(room, name):
+    """Builds a plain program of bench/yardstick and returns its path. Needs rustc."""
+    source = os.path.join(TOP, "bench", "yardstick", name + ".rs")
+    made = os.path.join(room, name)
+    subprocess.run(["rustc", "--edition", "2021", "-O", "-A", "dead_code", "-o", made, source], check=True)
+    return made
+
+
 def factor(text):
     """Returns a monomial as a factor: in brackets, where it is a product."""
     return text if len(text) == 1 else f"({text})"
@@ -92,6 +121,40 @@ def bracketings(word):
         return [word]
     halves = [(word[:k], word[k:]) for k in range(1, len(word))]
     return [factor(l) + factor(r) for left, right in halves for l in bracketings(left) for r in bracketings(right)]
+
+
+def plain_pair(number):
+    """Returns an instance as this line, and its product with a generator as the next one."""
+    at = number // 2
+    monomials = " ".join(MONOMIALS[(at + k) % len(MONOMIALS)] for k in range(3))
+    side = ("left", "right")[at % 2]
+    yield f"{number} instance 1 {monomials}\n"
+    yield f"{number + 1} times {number} {side} {'abcd'[at // 2 % 4]}\n"
+
+
+def plain_lines(lines):
+    """Returns a derivation of so many lines: an instance, then its product with a generator, and so on."""
+    yield HEAD
+    for number in range(1, lines - 1, 2):
+        yield from plain_pair(number)
+    yield f"{lines - 1} instance 1 a b c\n"
+    yield f"{lines} times {lines - 1} right d\n"
+    yield "end\n"
+
+
+def sum_lines(lines):
+    """Returns a derivation of so many lines: an instance, its product, a sum, a sum with that sum, and so on."""
+    yield HEAD
+    for number in range(1, lines - 3, 4):
+        c = number % 250 + 1
+        yield from plain_pair(number)
+        yield f"{number + 2} sum {c}*{number} -7*{number + 1} {c}*{(number + 4) // 2}\n"
+        yield f"{number + 3} sum 1*{number + 2} -{c}*{(number + 4) // 2}\n"
+    yield f"{lines - 3} instance 1 a b c\n"
+    yield f"{lines - 2} times {lines - 3} right d\n"
+    yield f"{lines - 1} sum 5*{lines - 3} 1*{lines - 2}\n"
+    yield f"{lines} sum 1*{lines - 1} -5*{lines - 3}\n"
+    yield "end\n"
 
 
 def claims_of(path):

@@ -123,7 +123,8 @@ pub struct Algebra {
     pub identities: Vec<(usize, Poly)>,
 }
 
-/// Reads polynomials: sums of products of letters, brackets, associators and commutators, with powers and coefficients.
+/// Reads polynomials: sums of products and Jordan products of letters, brackets, associators and commutators, with powers and
+/// coefficients.
 pub struct Reader<'a> {
     text: &'a [u8],
     at: usize,
@@ -171,12 +172,22 @@ impl Reader<'_> {
         if self.next().is_ascii_digit() {
             factor = (self.number() % u64::from(by.p)) as u32;
         }
+        let mut whole = self.juxtaposed(by);
+        while self.next() == b'*' {
+            self.at += 1;
+            let right = self.juxtaposed(by);
+            whole = by.jordan_product(&whole, &right);
+        }
+        by.sum(&[(factor, &whole)])
+    }
+
+    pub fn juxtaposed(&mut self, by: &mut Algebra) -> Poly {
         let mut whole = self.power(by);
         while matches!(self.next(), b'a'..=b'z' | b'(' | b'[') {
             let right = self.power(by);
             whole = by.product(&whole, &right);
         }
-        by.sum(&[(factor, &whole)])
+        whole
     }
 
     pub fn power(&mut self, by: &mut Algebra) -> Poly {
@@ -287,6 +298,12 @@ impl Algebra {
             }
         }
         self.collector.take()
+    }
+
+    /// The Jordan product without a factor, `fg + gf`.
+    pub fn jordan_product(&mut self, f: &Poly, g: &Poly) -> Poly {
+        let (fg, gf) = (self.product(f, g), self.product(g, f));
+        self.sum(&[(1, &fg), (1, &gf)])
     }
 
     pub fn read(&mut self, text: &str) -> Poly {

@@ -1,9 +1,12 @@
-//! A yardstick for the judging of derivations: a checker in plain Rust, by `rustc` alone.
+//! A yardstick for the judging of evidence: a checker in plain Rust, by `rustc` alone.
 //!
-//! Standard input is a script of `albert check` whose evidence are derivations. For each claim it prints `accepted zero`, or
-//! `rejected` and the number of the first faulty line (0 where only the last polynomial is another one).
+//! Standard input is a script of `albert check`. For each claim with a derivation it prints `accepted zero`, or `rejected` and the
+//! number of the first faulty line (0 where only the last polynomial is another one); for each with a table, which has to be over
+//! the field of 251 elements, `accepted not zero`, or `rejected` and 60, 61 or 62.
 
 mod algebra;
+mod refutation;
+mod table;
 
 use algebra::{Algebra, Mono, Node, Poly};
 use std::io::Read;
@@ -62,33 +65,50 @@ fn line(by: &mut Algebra, known: &[Poly], words: &mut std::str::SplitAsciiWhites
     }
 }
 
+/// What is said of a derivation of a claim, whose lines stand between its heading and its end.
+fn judged<'a>(by: &mut Algebra, claim: &Poly, lines: impl Iterator<Item = &'a str>) -> String {
+    let mut known = Vec::new();
+    let mut fault = None;
+    for text in lines {
+        if fault.is_none() {
+            match line(by, &known, &mut text.split_ascii_whitespace()) {
+                Some(f) => known.push(f),
+                None => fault = Some(known.len() + 1),
+            }
+        }
+    }
+    let is_claim = known.last().map_or(claim.is_empty(), |f| f == claim);
+    match (fault, is_claim) {
+        (Some(k), _) => format!("rejected {k}"),
+        (None, false) => "rejected 0".to_string(),
+        (None, true) => "accepted zero".to_string(),
+    }
+}
+
 fn main() {
     let mut text = String::new();
     std::io::stdin().read_to_string(&mut text).expect("a script");
     let mut by = Algebra::new();
-    let mut lines = text.lines();
+    let mut forms = Vec::new();
+    let mut lines = text.lines().peekable();
     while let Some(given) = lines.next() {
         let (word, rest) = given.split_once(' ').unwrap_or((given, ""));
-        if by.states(word, rest) || word != "claim" {
+        if by.states(word, rest) {
             continue;
         }
-        let claim = by.read(rest);
-        let mut known = Vec::new();
-        let mut fault = None;
-        assert_eq!(lines.next(), Some("derivation"), "a derivation");
-        for text in lines.by_ref().take_while(|text| *text != "end") {
-            if fault.is_none() {
-                match line(&mut by, &known, &mut text.split_ascii_whitespace()) {
-                    Some(f) => known.push(f),
-                    None => fault = Some(known.len() + 1),
+        match word {
+            "build" => forms = refutation::forms_of(&mut by),
+            "claim" => {
+                let claim = by.read(rest);
+                let is_derivation = lines.next_if_eq(&"derivation").is_some();
+                let block = lines.by_ref().take_while(|text| *text != "end");
+                if is_derivation {
+                    println!("{}", judged(&mut by, &claim, block));
+                } else {
+                    println!("{}", refutation::judged(&by, &forms, &claim, block));
                 }
             }
-        }
-        let is_claim = known.last().map_or(claim.is_empty(), |f| *f == claim);
-        match (fault, is_claim) {
-            (Some(k), _) => println!("rejected {k}"),
-            (None, false) => println!("rejected 0"),
-            (None, true) => println!("accepted zero"),
+            _ => {}
         }
     }
 }

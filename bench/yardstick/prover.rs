@@ -1,8 +1,9 @@
 //! A yardstick for `prove`: a prover in plain Rust, by `rustc` alone.
 //!
-//! Standard input is a script of `albert batch` over the field of 251 elements whose questions are `prove`, of polynomials that are
-//! zero. It answers each with a derivation that `albert check` accepts. A line that was derived once is used again, also by later
-//! questions; of all lines a derivation has those that its last one needs.
+//! Standard input is a script of `albert batch` over the field of 251 elements whose questions are `prove`, of polynomials within the
+//! table. It answers each with a derivation or a table that `albert check` accepts. A line that was derived once is used again, also
+//! by later questions; of all lines a derivation has those that its last one needs. A polynomial that is not zero gets the same bytes
+//! as of `albert batch`.
 
 mod algebra;
 mod table;
@@ -11,7 +12,7 @@ use algebra::{Algebra, Mono, Node};
 use std::collections::HashMap;
 use std::fmt::Write;
 use std::io::Read;
-use table::{Element, Elimination, Origin, P, Sums, Table, Vector};
+use table::{Element, Elimination, Origin, P, Sums, Table, Vector, signed};
 
 const MOST_ITEMS: usize = 64;
 
@@ -181,9 +182,34 @@ impl Prover {
                 put(&mut items, k, c as u16);
             }
         }
-        assert!(value.take().is_empty(), "a polynomial that is zero");
+        let value = value.take();
+        if !value.is_empty() {
+            return self.refuted(&value);
+        }
         let last = self.sum(items);
         format!("[{}] zero\nderivation\n{}end\n", self.table.degree, last.map_or(String::new(), |k| self.written(k)))
+    }
+
+    /// The normal form, and the table whose top is the least type of its terms.
+    fn refuted(&mut self, value: &Vector) -> String {
+        let mut text = format!("[{}] not zero:", self.table.degree);
+        for (k, (b, c)) in value.iter().rev().enumerate() {
+            let x = signed(*c);
+            text.push_str(match (k, x < 0) {
+                (0, false) => " ",
+                (0, true) => " -",
+                (_, false) => " + ",
+                (_, true) => " - ",
+            });
+            if x.abs() != 1 {
+                write!(text, "{}", x.abs()).expect("a text");
+            }
+            let m = self.name(*b);
+            self.monomial(&mut text, m, false);
+        }
+        text.push('\n');
+        self.table.write_refutation(&mut text, self.table.type_of[value[0].0 as usize]);
+        text
     }
 
     /// The lines that a line needs, numbered from 1.
@@ -220,8 +246,7 @@ impl Prover {
                 Line::Sum(items) => {
                     text.push_str(" sum");
                     for (c, of) in items {
-                        let signed = if 2 * c > P { i32::from(*c) - i32::from(P) } else { i32::from(*c) };
-                        write!(text, " {signed}*{}", numbers[*of]).expect("a text");
+                        write!(text, " {}*{}", signed(*c), numbers[*of]).expect("a text");
                     }
                 }
             }

@@ -71,7 +71,7 @@ pub struct Form {
     pub degree: usize,
     pub runs: Vec<usize>,
     factors: Vec<Factor>,
-    terms: Vec<(usize, usize, u16)>,
+    pub terms: Vec<(usize, usize, u16)>,
 }
 
 enum Factor {
@@ -83,7 +83,7 @@ fn degree_of(t: &Type) -> usize {
     t.iter().map(|n| *n as usize).sum()
 }
 
-fn all_types(target: &[u8]) -> Vec<Type> {
+pub fn all_types(target: &[u8]) -> Vec<Type> {
     let mut all: Vec<Type> = vec![Vec::new()];
     for most in target {
         all = all.iter().flat_map(|t| (0..=*most).map(move |n| [t.as_slice(), &[n]].concat())).collect();
@@ -104,7 +104,7 @@ fn is_symmetric(by: &mut Algebra, f: &Poly, k: u8, degree: usize) -> bool {
 }
 
 impl Form {
-    fn of(by: &mut Algebra, degree: usize, f: &Poly) -> Form {
+    pub fn of(by: &mut Algebra, degree: usize, f: &Poly) -> Form {
         let mut runs = vec![1];
         for k in 1..degree {
             if is_symmetric(by, f, k as u8 - 1, degree) {
@@ -138,6 +138,23 @@ impl Form {
         known.insert(m, self.factors.len() - 1);
         self.factors.len() - 1
     }
+
+    /// Makes the values of the factors at a tuple.
+    pub fn values(&self, tuple: &[u32], values: &mut Vec<Vector>, mut product: impl FnMut(&[(u32, u16)], &[(u32, u16)]) -> Vector) {
+        values.clear();
+        for factor in &self.factors {
+            let value = match factor {
+                Factor::Place(k) => vec![(tuple[*k], 1)],
+                Factor::Product(l, r) => product(&values[*l], &values[*r]),
+            };
+            values.push(value);
+        }
+    }
+}
+
+/// The residue between -P/2 and P/2.
+pub fn signed(c: u16) -> i32 {
+    if 2 * c > P { i32::from(c) - i32::from(P) } else { i32::from(c) }
 }
 
 fn inverse(x: u16) -> u16 {
@@ -313,14 +330,7 @@ impl Table {
 
     /// Adds the row of the instance of a form at a tuple.
     fn row(&self, sums: &mut Sums, form: &Form, tuple: &[u32], block: &Block, values: &mut Vec<Vector>, row: &mut [u16]) {
-        values.clear();
-        for factor in &form.factors {
-            let value = match factor {
-                Factor::Place(k) => vec![(tuple[*k], 1)],
-                Factor::Product(l, r) => self.product(sums, &values[*l], &values[*r]),
-            };
-            values.push(value);
-        }
+        form.values(tuple, values, |x, y| self.product(sums, x, y));
         for &(l, r, c) in &form.terms {
             for &(b, x) in &values[l] {
                 for &(d, y) in &values[r] {
@@ -469,6 +479,32 @@ impl Table {
             text += &format!("{} {}\n", self.type_text(k), above - first);
         }
         text
+    }
+
+    /// Writes the elements whose types are at most a type of the table, and their products, as evidence.
+    pub fn write_refutation(&self, text: &mut String, top: usize) {
+        let fits = |b: &u32| Table::less(&self.types[top], self.type_at(*b)).is_some();
+        let kept: Vec<u32> = (0..self.elements.len() as u32).filter(fits).collect();
+        let mut numbers = vec![0; self.elements.len()];
+        *text += &format!("table {}\n", self.type_text(top));
+        for (k, b) in kept.iter().enumerate() {
+            numbers[*b as usize] = k + 1;
+            *text += &format!("element {} {}\n", k + 1, self.type_text(self.type_of[*b as usize]));
+        }
+        for b in &kept {
+            if let Element::Generator(k) = self.elements[*b as usize] {
+                *text += &format!("generator {} {}\n", char::from(b'a' + k), numbers[*b as usize]);
+            }
+        }
+        for l in &kept {
+            let rest = Table::less(&self.types[top], self.type_at(*l)).expect("a type at most the top");
+            for r in kept.iter().filter(|r| Table::less(&rest, self.type_at(**r)).is_some()) {
+                for (b, c) in self.entry(*l, *r).into_iter().flatten() {
+                    *text += &format!("entry {} {} {} {}\n", numbers[*l as usize], numbers[*r as usize], numbers[*b as usize], signed(*c));
+                }
+            }
+        }
+        *text += "end\n";
     }
 
     /// The value of a monomial, whose letters are generators.

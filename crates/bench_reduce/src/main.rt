@@ -1,9 +1,11 @@
-//! Offers random sparse rows to an elimination, so that bench/reduce can time it. The words are the number of columns, the number
-//! of rows, and a seed; each row gets 8 entries. It prints the number of pivots and of nonzero cells of the reduced form.
+//! Offers random rows to an elimination, so that bench/reduce can time it. The words are the number of columns, the number of rows,
+//! and a seed; each row gets 8 entries, and with a fourth word `dense` one at each column. It prints the number of pivots and of
+//! nonzero cells of the reduced form.
 #![tactic(auto)]
 
-ghost use Rattle.std.specs.Prelude.{◌≡◌, ◌<◌, false, IfOk};
-ghost use Rattle.alb_rows.specs.Row.{ColumnsBelow, IsRowOver};
+ghost use Rattle.std.specs.Prelude.{ℕ, ◌≡◌, ◌<◌, false, IfOk, OnOk};
+ghost use Rattle.alb_rows.specs.Row.{AreCellResidues, ColumnsBelow, IsRow, IsRowOver};
+ghost use Rattle.alb_rows.specs.Merge.{AddsAt};
 
 use alb_mono::NoMemory;
 use alb_reduce::{Echelon, Reduced};
@@ -57,19 +59,72 @@ fn random_row(
     Ok(row)
 }
 
+// Adds a cell at the end, unless it is zero.
+fn push_cell(cells: &mut Vec<(u32, Residue)>, column: u32, value: Residue) -> Result<(), NoMemory>
+    requires row { IsRow cells.old.items }
+    requires below { ColumnsBelow column cells.old.items }
+    ensures row { IsRow cells.new.items }
+    ensures adds { OnOk result (AddsAt cells.old.items cells.new.items column value) }
+    ensures residues { (p : ℕ) → value < p → AreCellResidues p cells.old.items → AreCellResidues p cells.new.items }
+{
+    if value != 0 {
+        cells.push((column, value))?;
+    }
+    Ok(())
+}
+
+// A row over the columns below `columns` with an entry at each of them; some are zero.
+fn dense_row(alloc: Global, field: &Field, columns: u32, draws: &mut Draws) -> Result<Row, NoMemory>
+    ensures row { IfOk result (λ r. IsRowOver field.now r) }
+    ensures columns { IfOk result (λ r. ColumnsBelow columns r) }
+{
+    let mut cells = Vec::new(alloc);
+    for column in 0..columns {
+        let c = draws.draw(field.p()) as Residue;
+        push_cell(&mut cells, column, c)?;
+    }
+    Ok(Row::from_cells(cells))
+}
+
+// How many entries a row gets.
+#[derive(Clone, Copy)]
+enum Shape {
+    Sparse,
+    Dense,
+}
+
+// A row of the shape over the columns below `columns`.
+fn drawn_row(
+    alloc: Global,
+    field: &Field,
+    columns: u32,
+    shape: Shape,
+    draws: &mut Draws,
+) -> Result<Row, NoMemory>
+    requires { 0 < columns }
+    ensures row { IfOk result (λ r. IsRowOver field.now r) }
+    ensures columns { IfOk result (λ r. ColumnsBelow columns r) }
+{
+    match shape {
+        Shape::Sparse => random_row(alloc, field, columns, draws),
+        Shape::Dense => dense_row(alloc, field, columns, draws),
+    }
+}
+
 // The reduced form of random rows.
 fn reduced(
     alloc: Global,
     field: Field,
     columns: u32,
     rows: u32,
+    shape: Shape,
     draws: &mut Draws,
 ) -> Result<Reduced, NoMemory>
     requires { 0 < columns }
 {
     let mut echelon = Echelon::new(alloc, field, columns, false);
     for tag in 0..rows {
-        let row = random_row(alloc, &field, columns, draws)?;
+        let row = drawn_row(alloc, &field, columns, shape, draws)?;
         let (next, _answer) = echelon.offer(row, tag)?;
         echelon = next;
     }
@@ -89,20 +144,23 @@ fn cells(form: &Reduced) -> u64 {
     count
 }
 
-// The sizes of a run.
+// The sizes of a run, and the shape of its rows.
 #[derive(Drop)]
 struct Sizes {
     columns: u32,
     rows: u32,
     seed: u32,
+    shape: Shape,
 }
 
-// The numbers that the words name, where there are three.
+// What the words name, where three are numbers and any other is `dense`.
 fn sizes_of<R: Env + AllocGlobal>(rt: &R) -> io::Result<Option<Sizes>> {
     let mut numbers = Vec::new(rt.alloc());
+    let mut shape = Shape::Sparse;
     for word in env::args(rt)?.skip(1) {
         match word.parse::<u32>() {
             Ok(number) => numbers.push(number)?,
+            Err(_) if word.as_str() == "dense" => shape = Shape::Dense,
             Err(_) => return Ok(None),
         }
     }
@@ -111,6 +169,7 @@ fn sizes_of<R: Env + AllocGlobal>(rt: &R) -> io::Result<Option<Sizes>> {
             columns: *columns,
             rows: *rows,
             seed: *seed,
+            shape,
         })),
         _ => Ok(None),
     }
@@ -126,7 +185,14 @@ fn run(rt: &(impl Print + AllocGlobal), sizes: &Sizes) -> anyhow::Result<()> {
     let mut draws = Draws {
         state: u64::from(sizes.seed),
     };
-    match reduced(rt.alloc(), field, sizes.columns, sizes.rows, &mut draws) {
+    match reduced(
+        rt.alloc(),
+        field,
+        sizes.columns,
+        sizes.rows,
+        sizes.shape,
+        &mut draws,
+    ) {
         Ok(form) => println!(rt; "pivots {}, cells {}", form.pivots().len(), cells(&form))?,
         Err(NoMemory) => println!(rt; "no memory")?,
     }
@@ -137,7 +203,7 @@ fn main(rt: HostRuntime) -> anyhow::Result<()> {
     match sizes_of(&rt)? {
         Some(sizes) => run(&rt, &sizes),
         None => {
-            println!(rt; "words: COLUMNS ROWS SEED")?;
+            println!(rt; "words: COLUMNS ROWS SEED [dense]")?;
             Ok(())
         }
     }
