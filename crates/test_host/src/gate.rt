@@ -67,11 +67,13 @@ impl<'a> Desk for FeedDesk<'a> {
     }
 
     fn create(&mut self, alloc: Global, name: &str) -> Result<FeedSink<'a>, OpenError> {
-        let inner = self.inner.create(alloc, name)?;
-        Ok(FeedSink {
-            inner,
-            feeds: self.feeds,
-        })
+        match self.inner.create(alloc, name) {
+            Ok(inner) => Ok(FeedSink {
+                inner,
+                feeds: self.feeds,
+            }),
+            Err(error) => Err(error),
+        }
     }
 }
 
