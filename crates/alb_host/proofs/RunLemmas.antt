@@ -1,5 +1,5 @@
 -- What a run came to.
-use Rattle.std.proofs.Common.{◌≡◌, ◌≢◌, ℕ, ◌+◌, ◌<◌, ◌≤◌, List, [], ◌∷◌, length, map, All, Option, None, Some, Result, Ok, Err, IsSome, refl, sym, ap, ◌∙◌, subst, inl, inr, arith}
+use Rattle.std.proofs.Common.{◌≡◌, ◌≢◌, ℕ, ◌<◌, ◌≤◌, List, [], ◌∷◌, length, map, All, Option, None, Some, Result, Ok, Err, IsSome, sym, ap, ◌∙◌, subst, inl, inr, arith}
 use Rattle.std.proofs.lemmas.List.{length-map}
 use Rattle.std.proofs.lemmas.List.Elements.{All-head, All-tail}
 use Rattle.alb_board.specs.Passes.{pass_view}
@@ -22,7 +22,7 @@ use Rattle.alb_table.specs.End.{End, Complete, TooWide, TooManyProducts, TooMany
 use Rattle.alb_host.specs.Report.{session_end}
 use Rattle.alb_host.specs.declared.files.Opened.{Opened}
 use Rattle.alb_host.specs.declared.sessions.Ran.{Ran}
-use Rattle.alb_host.specs.Runs.{status_of_end, status_after, ReadsFile, AreEach, AreOpened, IsSession, FailsToOpen, HasNoRun, HasRun, StopsAt, StopsSo, RunsBy, Runs}
+use Rattle.alb_host.specs.Runs.{status_of_end, status_after, ReadsFile, AreEach, IsSession, FailsToOpen, HasNoRun, HasRun, StopsAt, StopsSo, RunsBy, Runs}
 use Rattle.alb_host.specs.Steps.{HasRunSo, IsReportOf, IsStarted, IsOpenedAs, HasServed, session_files, status_of_stop, refusal_of_stop}
 use Rattle.alb_host.specs.Words.{HostWords, names_view}
 use Rattle.alb_host.specs.declared.jobs.Start.{Start}

@@ -1,5 +1,5 @@
 -- What a run of `albert_host` does.
-use Rattle.std.specs.Prelude.{◌≡◌, ◌≢◌, ◌⊎◌, true, ℕ, ◌+◌, ◌<◌, ◌≤◌, ◌^◌, All, List, [], ◌∷◌, length, map, Option, None, Some, Result, Ok, Err, IsSome}
+use Rattle.std.specs.Prelude.{◌≡◌, ◌≢◌, ◌⊎◌, true, ℕ, ◌<◌, ◌^◌, All, List, [], ◌∷◌, map, Option, None, Some, Result, Ok, Err, IsSome}
 use Rattle.alb_board.specs.Passes.{board_rules, IsPassOf, pass_view}
 use Rattle.alb_board.specs.declared.kept.PassView.{PassView}
 use Rattle.alb_board.specs.declared.rule.Board.{Board}
@@ -19,7 +19,7 @@ use Rattle.alb_problem_file.specs.declared.stop.ProblemStop.TheVariants as stop
 use Rattle.alb_session.specs.Served.{Served}
 use Rattle.alb_session.specs.declared.end.SessionEnd.{SessionEnd}
 use Rattle.alb_session.specs.declared.end.SessionEnd.TheVariants as session
-use Rattle.alb_table.specs.End.{End, Complete, TooWide, TooManyProducts, TooManyCoefficients, NoMemory, end_of}
+use Rattle.alb_table.specs.End.{End, NoMemory, end_of}
 use Rattle.alb_table.specs.RightTable.{rules_view}
 use Rattle.alb_table.specs.declared.end.BuildEnd.{BuildEnd}
 use Rattle.alb_io.specs.Writes.{Writes}

@@ -9,9 +9,10 @@ use alb_host::run_host;
 use alb_io::{Desk, Failed, MemDesk, MemSink, MemSource, OpenError, Sink, Status};
 use alb_pool::Gate;
 use std::alloc::Global;
+use std::sync::Wait;
 use std::sync::atomic::{AtomicBool, AtomicU64, Ordering};
 use std::test::Fail;
-use std::thread::yield_now;
+use std::thread::{Threads, yield_now};
 
 /// The most turns of a wait.
 const TURNS: u32 = 10_000_000;
@@ -132,27 +133,53 @@ const FILES: [Text<'static>; 2] = [
     ),
 ];
 
-#[test]
-fn a_session_is_answered_while_a_degree_is_made(rt: HostRuntime) -> Result<(), Fail> {
-    let alloc = rt.alloc();
+// Whether, by these words, the gate held a degree and was passed, and the run and its session came to their ends.
+fn is_served_meanwhile<R: Threads + Wait + Sync>(
+    rt: &R,
+    alloc: Global,
+    words: &str,
+) -> Result<bool, Fail> {
     let feeds = AtomicU64::new(0);
     let gate = HoldingGate::new(&feeds);
     let mut desk = FeedDesk {
         inner: desk(alloc, &FILES, 4096, None)?,
         feeds: &feeds,
     };
-    let words = words_of(alloc, "--workers 2 problem in out")?;
+    let words = words_of(alloc, words)?;
     let mut output = MemSink::new(alloc, 4096, Vec::new(alloc));
-    let (status, report) = run_host(&rt, alloc, &words, &mut desk, &gate, &mut output);
-    assert!(rt; gate.was_passed());
-    assert!(rt; status == Status::Done);
-    assert!(rt; output.bytes() == b"built 4\nsession 1 ended\n".as_slice());
+    let (status, report) = run_host(rt, alloc, &words, &mut desk, &gate, &mut output);
     let Some(session) = report.sessions.first() else {
         return Err("there is no session".into());
     };
-    assert!(rt;
-        session.sink.inner.bytes()
-            == b"[2] ready\n[2] not built: degree 3\n[4] ready\n[4] zero\n".as_slice()
-    );
+    let wrote = session.sink.inner.bytes();
+    Ok(
+        gate.was_passed()
+            && status == Status::Done
+            && output.bytes() == b"built 4\nsession 1 ended\n".as_slice()
+            && wrote == b"[2] ready\n[2] not built: degree 3\n[4] ready\n[4] zero\n".as_slice(),
+    )
+}
+
+#[test]
+fn a_session_is_answered_while_two_workers_make_a_degree(rt: HostRuntime) -> Result<(), Fail> {
+    let alloc = rt.alloc();
+    let passed = is_served_meanwhile(&rt, alloc, "--workers 2 problem in out")?;
+    assert!(rt; passed);
+    Ok(())
+}
+
+#[test]
+fn a_session_is_answered_while_three_workers_make_a_degree(rt: HostRuntime) -> Result<(), Fail> {
+    let alloc = rt.alloc();
+    let passed = is_served_meanwhile(&rt, alloc, "--workers 3 problem in out")?;
+    assert!(rt; passed);
+    Ok(())
+}
+
+#[test]
+fn a_session_is_answered_while_sixteen_workers_make_a_degree(rt: HostRuntime) -> Result<(), Fail> {
+    let alloc = rt.alloc();
+    let passed = is_served_meanwhile(&rt, alloc, "--workers 16 problem in out")?;
+    assert!(rt; passed);
     Ok(())
 }

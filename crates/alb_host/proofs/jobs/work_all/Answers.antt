@@ -1,6 +1,6 @@
 use denote.Exit.{no}
 use denote.Param.Send.{IsSync, arg_sync, shr_sync}
-use Rattle.std.proofs.Common.{ℕ, ◌<◌, ◌≡◌, ◌∙◌, sym, subst, arith, slice_index_or, length}
+use Rattle.std.proofs.Common.{◌∙◌, sym, subst, arith, slice_index_or}
 use Rattle.std.proofs.Crossing.{sync}
 use Rattle.alb_host.specs.Steps.{IsDone}
 use Rattle.alb_host.specs.declared.jobs.Job.{Job}
