@@ -112,7 +112,9 @@ fn work<R: Threads + Wait + Sync, G: Gate, I: Source + Drop, K: Sink + Drop>(
     }
 }
 
-/// Does all jobs, each in a thread of its own where one can be made, and else one after the other.
+/// Does all jobs, each in a thread of its own where one can be made, and else one after the other. `map_vec` keeps the last job of its
+/// list to the thread that calls it, and does it first where no thread can be made; so it gets the jobs from the last to the first,
+/// and the first job waits for none of the others.
 pub fn work_all<R: Threads + Wait + Sync, G: Gate, I: Source + Send + Drop, K: Sink + Send + Drop>(
     rt: &R,
     alloc: Global,
@@ -126,7 +128,9 @@ pub fn work_all<R: Threads + Wait + Sync, G: Gate, I: Source + Send + Drop, K: S
     requires ready { All (IsReady board.now) jobs.items }
     ensures { IfOk result (λ v. AreDone I.Source K.Sink board.now letters.now jobs.items v.items) }
 {
-    let done = thread::map_vec(
+    let mut jobs = jobs;
+    jobs.reverse();
+    let mut done = thread::map_vec(
         rt,
         jobs,
         &|job: Job<I, K>| -> Done<I, K>
@@ -134,5 +138,6 @@ pub fn work_all<R: Threads + Wait + Sync, G: Gate, I: Source + Send + Drop, K: S
             ensures { IsDone I.Source K.Sink board.entry.now letters.entry.now job result }
         { work(rt, alloc, board, letters, workers, gate, job) },
     )?;
+    done.reverse();
     Ok(done)
 }

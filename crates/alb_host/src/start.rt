@@ -63,7 +63,7 @@ pub fn start_all<I: Drop, K: Drop>(
     Ok(starts)
 }
 
-/// The jobs, that of the builder first: where no thread can be made, they run one after the other.
+/// The jobs, that of the builder first.
 pub fn line_up<I: Drop, K: Drop>(
     alloc: Global,
     pass: Pass,
